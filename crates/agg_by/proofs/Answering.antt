@@ -6,7 +6,7 @@ use Rattle.row_changes.specs.Sums.{added_up}
 use Rattle.row_groups.{proofs.Keys.some_of, specs.Members.{Grouped, Member, Names, by_at, group_of, keys_of, member_under, name_at, placed as member_placed}}
 use Rattle.tick_laws.{proofs.ResultCells.length-filter_most, proofs.ResultTables.table_count}
 use Rattle.tick_model.{proofs.Among.{each_found, rows_among}, specs.Agg.{agg_table, aggregate, column_of, key_cells, over, present, sum_of}, specs.declared.plan.Agg.Agg, specs.declared.table.PlainRow.PlainRow, specs.declared.table.PlainTable.PlainTable, specs.Formulas.wrap, specs.Tables.{cell, cells_at, is_null, keys, null, row_at, same_cells, IsTable}}
-use Rattle.agg_by.{specs.declared.running.Running.Running, specs.declared.running.Running.TheVariants.{Count, Sum, Min, Max, First, Last}, specs.Answers.{answer, cell_of}, specs.ByNumber.at_number, specs.Kept.{AnswerAll, Answers, agg_of, cells_in, group_rows, indexed, member_by}, specs.Steps.{first_keys, kept_cells, key_at}, specs.Sums.{no_total, sum_or_null, total_of}, specs.Values.{greatest, in_order, least, opposites}, proofs.Bringing.{keys-members, members}, proofs.GroupRows.{cells-agg, first_at}, proofs.Ordered.{greatest_is, least_is}}
+use Rattle.agg_by.{specs.declared.running.Accumulator.Accumulator, specs.declared.running.Accumulator.TheVariants.{Count, Sum, Min, Max, First, Last}, specs.Answers.{answer, cell_of}, specs.ByNumber.at_number, specs.Kept.{AnswerAll, Answers, agg_of, cells_in, group_rows, indexed, member_by}, specs.Steps.{first_keys, kept_cells, key_at}, specs.Sums.{no_total, sum_or_null, total_of}, specs.Values.{greatest, in_order, least, opposites}, proofs.Bringing.{keys-members, members}, proofs.GroupRows.{cells-agg, first_at}, proofs.Ordered.{greatest_is, least_is}}
 
 -- the sum of cells
 fold_added : (a : ℤ) (xs : List ℤ) → fold ◌+ℤ◌ a xs ≡ a +ℤ added_up (λ x. x) xs
@@ -125,7 +125,7 @@ module _ (by : List ℕ) (rows : List PlainRow) (cells : List ℤ) where
   cell_at column (row ∷ some) (suc i) h = cell_at column some i h.1
 
   -- what is said of the group is the aggregate of its rows
-  pub answer_is : IsRising (keys rows) → length group ≤ 2 ^ 62 → (names : Names) (number : ℕ) → name_at number names ≡ Some cells → (running : Running) → Answers by names rows running
+  pub answer_is : IsRising (keys rows) → length group ≤ 2 ^ 62 → (names : Names) (number : ℕ) → name_at number names ≡ Some cells → (running : Accumulator) → Answers by names rows running
       → answer running number (group_of cells (members by None rows)) rows ≡ aggregate group (agg_of running)
   answer_is rising few names number named Count p = ap pos length_group
   answer_is rising few names number named (Sum column sums) p =
@@ -194,7 +194,7 @@ module _ (by : List ℕ) (table : PlainTable) (t : IsTable table) (kept : Groupe
   pub rows_there : (cells : List ℤ) (rows : List Member) → rows ≡ group_of cells kept.members → AllByRecursion (λ key. is_among key (keys table.rows) ≡ true) (keys_of rows)
   rows_there cells rows is = subst (λ (ms : List Member). AllByRecursion (λ key. is_among key (keys table.rows) ≡ true) (keys_of ms)) (sym (is ∙ ap (group_of cells) members_are)) (group_there by table.rows cells)
 
-  values_are : (names : Names) (number : ℕ) (aggs : List Agg) (running : List Running) (cells : List ℤ) → name_at number names ≡ Some cells → AnswerAll by names aggs table.rows running
+  values_are : (names : Names) (number : ℕ) (aggs : List Agg) (running : List Accumulator) (cells : List ℤ) → name_at number names ≡ Some cells → AnswerAll by names aggs table.rows running
       → map (λ running. answer running number (group_of cells (members by None table.rows)) table.rows) running ≡ map (aggregate (group by table.rows cells)) aggs
   values_are names number aggs running cells named answers =
       map_same (λ running. answer running number (group_of cells (members by None table.rows)) table.rows) (λ running. aggregate (group by table.rows cells) (agg_of running)) running
@@ -203,7 +203,7 @@ module _ (by : List ℕ) (table : PlainTable) (t : IsTable table) (kept : Groupe
       ∙ sym (map_map (aggregate (group by table.rows cells)) agg_of running) ∙ ap (map (aggregate (group by table.rows cells))) answers.0
 
   -- the row of a group, put behind other cells
-  pub put_row : (names : Names) (number : ℕ) (aggs : List Agg) (running : List Running) (first : ℕ) (cells : List ℤ) (rows : List Member) (old read new : List ℤ) → AnswerAll by names aggs table.rows running → is_among first (first_keys by table.rows) ≡ true
+  pub put_row : (names : Names) (number : ℕ) (aggs : List Agg) (running : List Accumulator) (first : ℕ) (cells : List ℤ) (rows : List Member) (old read new : List ℤ) → AnswerAll by names aggs table.rows running → is_among first (first_keys by table.rows) ≡ true
       → name_at number names ≡ Some (key_at by table.rows first) → cells ≡ key_at by table.rows first → rows ≡ group_of (key_at by table.rows first) kept.members → read ≡ old ++ cells
       → new ≡ read ++ map (λ running. answer running number rows table.rows) running → new ≡ old ++ cells_at first (agg_table by aggs table).rows
   put_row names number aggs running first cells rows old read new answers own named cells_is rows_is begun made =

@@ -8,7 +8,7 @@ use Rattle.shown_rows.proofs.Restricted.{is_modified, kept, modified_new, modifi
 use Rattle.table_update.specs.Kept.{old_modified}
 use Rattle.tick_model.{proofs.Among.each_found, specs.Agg.key_cells, specs.Tables.{cell, cells_at, keys, null, row_at, same_cells}, specs.Updates.{Update, differs_in, new_keys, old_keys, pairs, removing, shifting}, specs.declared.table.PlainRow.PlainRow, specs.declared.update.KeyPair.KeyPair}
 use Rattle.tick_table.{proofs.WholeRows.row_whole, specs.Exact.IsExact, specs.Ticking.Ticking}
-use Rattle.agg_by.{specs.Answers.{HasRow, with_row, without_row}, specs.Kept.{Answers, group_rows, indexed, member_by}, specs.Steps.{changing, changing_before, come, coming, gone, keeps_groups, kept_cells, key_at, leaving, touched_cells}, specs.declared.running.Running.Running, proofs.Answering.{cells_known, group_is, own_cells as kept_own_cells}, proofs.Bringing.members, proofs.KeptSteps.{gains, has_row, loses}, proofs.Made.no_rows, proofs.Noted.find_name, proofs.Touching.{changing_there, left_there}, proofs.Unmoved.{added_at, and_with, come_at, gone_at, is_quiet, moved_rows, new_rows, now_row, old_at, quiet_cells}, proofs.Untouched.{none_of, own_cells}}
+use Rattle.agg_by.{specs.Answers.{HasRow, with_row, without_row}, specs.Kept.{Answers, group_rows, indexed, member_by}, specs.Steps.{changing, changing_before, come, coming, gone, keeps_groups, kept_cells, key_at, leaving, touched_cells}, specs.declared.running.Accumulator.Accumulator, proofs.Answering.{cells_known, group_is, own_cells as kept_own_cells}, proofs.Bringing.members, proofs.KeptSteps.{gains, has_row, loses}, proofs.Made.no_rows, proofs.Noted.find_name, proofs.Touching.{changing_there, left_there}, proofs.Unmoved.{added_at, and_with, come_at, gone_at, is_quiet, moved_rows, new_rows, now_row, old_at, quiet_cells}, proofs.Untouched.{none_of, own_cells}}
 
 -- the rows that stay in their groups, where modified ones do or not, each under its key of now: those under some keys have their cells of now, the others those from before
 abbrev pub row_in : Ticking → List ℕ → KeyPair → PlainRow
@@ -289,7 +289,7 @@ module _ (by : List ℕ) (t : Ticking) (e : IsExact t) where
           (under (key_at by (rows_in b t []) pair.new)
           (ap (λ (grouped : Grouped). option_map (λ (member : Member). member.cells) (member_under pair.new grouped.members)) are ∙ cells_known by None (rows_in b t []) pair.new (here [])))
 
-      module _ (names : Names) (number : ℕ) (is : IsNumberOf number (key_at by t.old.rows pair.old) names) (x : Running) where
+      module _ (names : Names) (number : ℕ) (is : IsNumberOf number (key_at by t.old.rows pair.old) names) (x : Accumulator) where
         number_at : (rows : List PlainRow) → cells_at pair.new rows ≡ was → IsNumberOf number (key_at by rows pair.new) names
         number_at rows same = subst (λ cells. IsNumberOf number cells names) (sym (ap (key_cells by) same)) is
 

@@ -5,13 +5,13 @@ use Rattle.std.specs.List.{AllByRecursion}
 use Rattle.row_groups.specs.Members.{Grouped, IsNumberOf, Member, Names, keys_of, left_members, member_of, member_under, moved_members, name_at, with_member}
 use Rattle.shift_data.specs.Moves.{IsLawful}
 use Rattle.tick_model.{specs.declared.plan.Agg.Agg, specs.declared.table.PlainRow.PlainRow, specs.declared.update.ShiftRange.ShiftRange, specs.Agg.{column_of, key_cells, present}, specs.Tables.{cells_at, keys, same_cells}, specs.Updates.{moved_row, removing, shifting}}
-use Rattle.agg_by.{specs.declared.running.Running.Running, specs.declared.running.Running.TheVariants.{Count, Sum, Min, Max, First, Last}, specs.Answers.{HasRow, with_row, without_row}, specs.Kept.{Answers, agg_of, cells_in, group_rows, indexed}, specs.Steps.key_at, specs.Sums.{HasAny, minus, no_total, plus, total_of}, specs.Values.{IsAmong, in_order, opposite, opposites, placed, unplaced}, proofs.Bringing.{absent_member, keys-members, left-members, moved-members, put_back}, proofs.Counted.placed_among, proofs.Made.{made_gains, made_has, made_loses, mirrored, sums, values}, proofs.Untouched.column-shifting}
+use Rattle.agg_by.{specs.declared.running.Accumulator.Accumulator, specs.declared.running.Accumulator.TheVariants.{Count, Sum, Min, Max, First, Last}, specs.Answers.{HasRow, with_row, without_row}, specs.Kept.{Answers, agg_of, cells_in, group_rows, indexed}, specs.Steps.key_at, specs.Sums.{HasAny, minus, no_total, plus, total_of}, specs.Values.{IsAmong, in_order, opposite, opposites, placed, unplaced}, proofs.Bringing.{absent_member, keys-members, left-members, moved-members, put_back}, proofs.Counted.placed_among, proofs.Made.{made_gains, made_has, made_loses, mirrored, sums, values}, proofs.Untouched.column-shifting}
 
 -- the index of some members
 abbrev of_members : List ℕ → List Member → Grouped
 of_members by ms = record { width = length by; members = ms }
 
-pub without_agg : (number : ℕ) (row : List ℤ) (x : Running) → agg_of (without_row number row x) ≡ agg_of x
+pub without_agg : (number : ℕ) (row : List ℤ) (x : Accumulator) → agg_of (without_row number row x) ≡ agg_of x
 without_agg number row Count = refl
 without_agg number row (Sum column sums) = refl
 without_agg number row (Min column values) = refl
@@ -19,7 +19,7 @@ without_agg number row (Max column values) = refl
 without_agg number row (First column) = refl
 without_agg number row (Last column) = refl
 
-pub with_agg : (number : ℕ) (row : List ℤ) (x : Running) → agg_of (with_row number row x) ≡ agg_of x
+pub with_agg : (number : ℕ) (row : List ℤ) (x : Accumulator) → agg_of (with_row number row x) ≡ agg_of x
 with_agg number row Count = refl
 with_agg number row (Sum column sums) = refl
 with_agg number row (Min column values) = refl
@@ -28,7 +28,7 @@ with_agg number row (First column) = refl
 with_agg number row (Last column) = refl
 
 -- what answers the aggregates, each changed
-pub all_changed : (f : Running → Running) (P Q : Running → Type 0) (aggs : List Agg) (running : List Running) → ((x : Running) → agg_of (f x) ≡ agg_of x) → ((x : Running) → P x → Q (f x))
+pub all_changed : (f : Accumulator → Accumulator) (P Q : Accumulator → Type 0) (aggs : List Agg) (running : List Accumulator) → ((x : Accumulator) → agg_of (f x) ≡ agg_of x) → ((x : Accumulator) → P x → Q (f x))
     → (map agg_of running ≡ aggs) × AllByRecursion P running → (map agg_of (map f running) ≡ aggs) × AllByRecursion Q (map f running)
 all_changed f P Q aggs running same keeps all = (
   map_map agg_of f running ∙ map_same (λ x. agg_of (f x)) agg_of running (every (λ x. agg_of (f x) ≡ agg_of x) running same) ∙ all.0,
@@ -37,7 +37,7 @@ all_changed f P Q aggs running same keeps all = (
 
 -- rows and numbers under which each group has the same cells
 pub same_answers : (by : List ℕ) (old new : Names) (before after : List PlainRow) → ((column n : ℕ) → cells_in by column before (name_at n old) ≡ cells_in by column after (name_at n new))
-    → (x : Running) → Answers by old before x → Answers by new after x
+    → (x : Accumulator) → Answers by old before x → Answers by new after x
 same_answers by old new before after same Count p = tt
 same_answers by old new before after same (Sum column sums) p = λ n. p n ∙ ap total_of (same column n)
 same_answers by old new before after same (Min column values) p = λ n. p n ∙ ap opposites (same column n)
@@ -46,7 +46,7 @@ same_answers by old new before after same (First column) p = tt
 same_answers by old new before after same (Last column) p = tt
 
 module _ (by : List ℕ) (rows : List PlainRow) (rising : IsRising (keys rows)) (key : ℕ) (others : List ℕ) (own : is_among key (keys rows) ≡ true) (apart : is_among key others ≡ false) where
-  pub has_row : (names : Names) (number : ℕ) → IsNumberOf number (key_at by rows key) names → (x : Running) → Answers by names (removing others rows) x → HasRow number (cells_at key rows) x
+  pub has_row : (names : Names) (number : ℕ) → IsNumberOf number (key_at by rows key) names → (x : Accumulator) → Answers by names (removing others rows) x → HasRow number (cells_at key rows) x
   has_row names number is Count p = tt
   has_row names number is (Sum column totals) p = made_has no_total total_of plus minus sums by column names rows rising key others own apart number is totals HasAny (λ x made. tt) p
   has_row names number is (Min column lists) p =
@@ -55,7 +55,7 @@ module _ (by : List ℕ) (rows : List PlainRow) (rising : IsRising (keys rows)) 
   has_row names number is (First column) p = tt
   has_row names number is (Last column) p = tt
 
-  pub loses : (names : Names) (number : ℕ) → IsNumberOf number (key_at by rows key) names → (x : Running) → Answers by names (removing others rows) x → Answers by names (removing (key ∷ others) rows) (without_row number (cells_at key rows) x)
+  pub loses : (names : Names) (number : ℕ) → IsNumberOf number (key_at by rows key) names → (x : Accumulator) → Answers by names (removing others rows) x → Answers by names (removing (key ∷ others) rows) (without_row number (cells_at key rows) x)
   loses names number is Count p = tt
   loses names number is (Sum column totals) p = made_loses no_total total_of plus minus sums by column names rows rising key others own apart number is totals p
   loses names number is (Min column lists) p = made_loses [] opposites (λ value. placed (opposite value)) (λ value. unplaced (opposite value)) mirrored by column names rows rising key others own apart number is lists p
@@ -63,7 +63,7 @@ module _ (by : List ℕ) (rows : List PlainRow) (rising : IsRising (keys rows)) 
   loses names number is (First column) p = tt
   loses names number is (Last column) p = tt
 
-  pub gains : (names : Names) (number : ℕ) → IsNumberOf number (key_at by rows key) names → (x : Running) → Answers by names (removing (key ∷ others) rows) x → Answers by names (removing others rows) (with_row number (cells_at key rows) x)
+  pub gains : (names : Names) (number : ℕ) → IsNumberOf number (key_at by rows key) names → (x : Accumulator) → Answers by names (removing (key ∷ others) rows) x → Answers by names (removing others rows) (with_row number (cells_at key rows) x)
   gains names number is Count p = tt
   gains names number is (Sum column totals) p = made_gains no_total total_of plus minus sums by column names rows rising key others own apart number is totals p
   gains names number is (Min column lists) p = made_gains [] opposites (λ value. placed (opposite value)) (λ value. unplaced (opposite value)) mirrored by column names rows rising key others own apart number is lists p

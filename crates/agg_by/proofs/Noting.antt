@@ -5,7 +5,7 @@ use Rattle.key_lists.{specs.Keys.{is_among, IsRising}, proofs.Every.every_weaker
 use Rattle.row_set.{specs.Sets.{count_below, found}, proofs.Lookups.count_at}
 use Rattle.tick_laws.{proofs.ResultTables.result_table, proofs.ToldRows.cells_of_row}
 use Rattle.tick_model.{specs.Agg.agg_table, specs.declared.plan.Agg.Agg, specs.declared.plan.Op.TheVariants.Agg as Aggregated, specs.declared.table.PlainRow.PlainRow, specs.declared.table.PlainTable.PlainTable, specs.Tables.{cells_at, keys, IsRow, IsTable}}
-use Rattle.agg_by.{specs.declared.notes.Notes.Notes, specs.Notes.IsNoted, specs.Steps.first_keys, proofs.GroupRows.keys-agg}
+use Rattle.agg_by.{specs.declared.notes.PriorRows.PriorRows, specs.Notes.IsNoted, specs.Steps.first_keys, proofs.GroupRows.keys-agg}
 
 pub agg_is_table : (by : List ℕ) (aggs : List Agg) (table : PlainTable) → IsTable table → IsTable (agg_table by aggs table)
 agg_is_table by aggs table t = result_table (Aggregated 0 by aggs) (λ _. table) (t, tt) tt
@@ -55,7 +55,7 @@ part_of f width (other ∷ keys) (suc place) key h e =
     past n a e = omega (arith, e)
 
 -- the cells of the row at a place
-pub noted_at : (notes : Notes) (table : PlainTable) (place key : ℕ) → IsNoted notes table → slice_get notes.keys place ≡ Some key → slice_range notes.cells.items (place * notes.width) (place * notes.width + notes.width) ≡ cells_at key table.rows
+pub noted_at : (notes : PriorRows) (table : PlainTable) (place key : ℕ) → IsNoted notes table → slice_get notes.keys place ≡ Some key → slice_range notes.cells.items (place * notes.width) (place * notes.width + notes.width) ≡ cells_at key table.rows
 noted_at notes table place key noted here =
     ap₂ (λ count (cells : List ℤ). take count (drop (place * notes.width) cells)) (less (place * notes.width) notes.width) noted.cells
     ∙ part_of (λ key. cells_at key table.rows) notes.width notes.keys place key noted.whole here
@@ -63,7 +63,7 @@ noted_at notes table place key noted here =
     less : (a b : ℕ) → a + b - a ≡ b
     less a b = omega arith
 
-pub noted_room : (notes : Notes) (table : PlainTable) → IsNoted notes table → length notes.cells.items ≡ length notes.keys * notes.width
+pub noted_room : (notes : PriorRows) (table : PlainTable) → IsNoted notes table → length notes.cells.items ≡ length notes.keys * notes.width
 noted_room notes table noted = ap length noted.cells ∙ length_noted (λ key. cells_at key table.rows) notes.width notes.keys noted.whole
 
 pub found_ok : (key : ℕ) (set : List ℕ) (place : ℕ) → result_ok (found key set) ≡ Some place → (is_among key set ≡ true) × (count_below key set ≡ place)

@@ -9,9 +9,9 @@ use Rattle.table_update.specs.Kept.{old_modified}
 use Rattle.tick_model.{specs.declared.plan.Agg.Agg, specs.declared.table.PlainRow.PlainRow, specs.declared.table.PlainTable.PlainTable, specs.declared.update.KeyPair.KeyPair, specs.Rules.update_fault, specs.Tables.{keys, IsTable}, specs.Updates.{between, kept_pair, new_keys}}
 use Rattle.tick_laws.specs.Checked.{keys_after}
 use Rattle.tick_table.{proofs.Between.{between_lawful, keys_after_between}, specs.Exact.{IsExact, counted}, specs.Ticking.Ticking}
-use Rattle.agg_by.{specs.Aggregator.IsColumn, specs.declared.kept.Kept.Kept, specs.declared.running.Running.Running, specs.declared.running.Running.TheVariants.{Count, Sum, Min, Max, First, Last}, specs.Answers.IsWithin, specs.Kept.{AnswerAll, Are, IsMade, Keeps, agg_of, indexed}, specs.Steps.{changing_before, come, coming, first_keys, gone, is_touched, keeps_groups, key_at, leaving, starts, staying, stays, touched_cells, touched_firsts}, proofs.FirstKeys.{few_firsts, first_keys_rise, firsts_are}, proofs.GroupParts.{is_tick, staying_is, tick, touched}, proofs.GroupRows.keys-agg}
+use Rattle.agg_by.{specs.Aggregator.IsColumn, specs.declared.kept.AggIndex.AggIndex, specs.declared.running.Accumulator.Accumulator, specs.declared.running.Accumulator.TheVariants.{Count, Sum, Min, Max, First, Last}, specs.Answers.IsWithin, specs.Kept.{AnswerAll, Are, IsMade, Keeps, agg_of, indexed}, specs.Steps.{changing_before, come, coming, first_keys, gone, is_touched, keeps_groups, key_at, leaving, starts, staying, stays, touched_cells, touched_firsts}, proofs.FirstKeys.{few_firsts, first_keys_rise, firsts_are}, proofs.GroupParts.{is_tick, staying_is, tick, touched}, proofs.GroupRows.keys-agg}
 
-within_one : (width : ℕ) (running : Running) → IsColumn width (agg_of running) → IsWithin width running
+within_one : (width : ℕ) (running : Accumulator) → IsColumn width (agg_of running) → IsWithin width running
 within_one width Count h = tt
 within_one width (Sum column sums) h = tt
 within_one width (Min column index) h = tt
@@ -20,13 +20,13 @@ within_one width (First column) h = h
 within_one width (Last column) h = h
 
 -- the columns that are read are the table's
-pub within_all : (width : ℕ) (aggs : List Agg) (running : List Running) → map agg_of running ≡ aggs → AllByRecursion (IsColumn width) aggs → AllByRecursion (IsWithin width) running
+pub within_all : (width : ℕ) (aggs : List Agg) (running : List Accumulator) → map agg_of running ≡ aggs → AllByRecursion (IsColumn width) aggs → AllByRecursion (IsWithin width) running
 within_all width aggs running are columns =
     every_weaker (λ running. IsColumn width (agg_of running)) (IsWithin width) running (within_one width)
     (every_unmapped (IsColumn width) agg_of running (subst (AllByRecursion (IsColumn width)) (sym are) columns))
 
 -- what is kept where all is begun
-pub begun_keeps : (old new : Kept) (rows : List PlainRow) → IsMade old new → new.rows ≡ old.rows → ((rows : List PlainRow) → Are old.by old.rows.names old.aggs rows old.running.items → AnswerAll old.by old.rows.names old.aggs rows new.running.items)
+pub begun_keeps : (old new : AggIndex) (rows : List PlainRow) → IsMade old new → new.rows ≡ old.rows → ((rows : List PlainRow) → Are old.by old.rows.names old.aggs rows old.running.items → AnswerAll old.by old.rows.names old.aggs rows new.running.items)
     → groups_of old.rows ≡ indexed old.by None rows → Are old.by old.rows.names old.aggs rows old.running.items → Keeps new rows
 begun_keeps old new rows made same begun indexed_rows are = record {
   rows = ap groups_of same ∙ indexed_rows ∙ ap (λ by. indexed by None rows) (sym made.by);
@@ -72,7 +72,7 @@ pub firsts_few : (by : List ℕ) (t : Ticking) → IsExact t → (rows : Numbere
 firsts_few by t e rows firsts rising found = omega (arith, few_firsts rows.members (touched_cells by t) firsts rising found, touched_few by t, touched_count t e)
 
 -- the reads of a whole step, as far as it goes: its groups are noted, they are brought on, and their change is made
-module _ (t : Ticking) (e : IsExact t) (begun : Kept) (aggs : List Agg) (same : begun.aggs ≡ aggs) (first second third : ℕ)
+module _ (t : Ticking) (e : IsExact t) (begun : AggIndex) (aggs : List Agg) (same : begun.aggs ≡ aggs) (first second third : ℕ)
     (noted : second ≤ first + (t.new.width + length begun.aggs) * counted t.update) (brought : third ≤ second + t.new.width * counted t.update) where
   step_reads : (fourth firsts : ℕ) → fourth ≤ third + 2 * length begun.aggs * firsts → firsts ≤ counted t.update → fourth ≤ first + 3 * (t.new.width + length aggs) * counted t.update
   step_reads fourth firsts h few =
@@ -82,7 +82,7 @@ module _ (t : Ticking) (e : IsExact t) (begun : Kept) (aggs : List Agg) (same : 
   pub brought_reads : third ≤ first + 3 * (t.new.width + length aggs) * counted t.update
   brought_reads = step_reads third 0 (omega arith) (omega arith)
 
-  pub changed_reads : (after : Kept) → IsMade begun after → (firsts : List ℕ) → IsRising firsts → ((first : ℕ) → is_among first firsts ≡ list_any (starts after.rows.members first) (touched_cells begun.by t))
+  pub changed_reads : (after : AggIndex) → IsMade begun after → (firsts : List ℕ) → IsRising firsts → ((first : ℕ) → is_among first firsts ≡ list_any (starts after.rows.members first) (touched_cells begun.by t))
       → (fourth : ℕ) → fourth ≤ third + 2 * length after.aggs * length firsts → fourth ≤ first + 3 * (t.new.width + length aggs) * counted t.update
   changed_reads after made firsts rising found fourth h =
       step_reads fourth (length firsts) (subst (λ (aggs : List Agg). fourth ≤ third + 2 * length aggs * length firsts) made.aggs h)

@@ -6,7 +6,7 @@
 --     StandsFor aggregator table      and so are the keys
 --     grouped by aggs tick      the tick of an aggregation, from that of its input
 use Rattle.std.{specs.Prelude.{◌≡◌, ℕ, ◌+◌, ◌<◌, ◌≤◌, List, length, None}, specs.List.AllByRecursion}
-use Rattle.agg_by.{specs.declared.running.Running.Running, specs.Kept.{Are, indexed}, specs.Steps.first_keys}
+use Rattle.agg_by.{specs.declared.running.Accumulator.Accumulator, specs.Kept.{Are, indexed}, specs.Steps.first_keys}
 use Rattle.row_groups.specs.Members.{Numbered, groups_of}
 use Rattle.tick_model.{specs.declared.plan.Agg.Agg, specs.declared.plan.Agg.TheVariants.{Count, Sum, Min, Max, First, Last}, specs.declared.plan.Op.TheVariants.Agg as Aggregated, specs.declared.table.PlainTable.PlainTable, specs.Updates.Tick}
 use Rattle.tick_laws.specs.Operated.{operated}
@@ -16,14 +16,14 @@ pub record Grouping : Type 0 where
   pub aggs : List Agg
   pub width : ℕ
   pub rows : Numbered
-  pub running : List Running
+  pub running : List Accumulator
 
 pub record Aggregator : Type 0 where
   pub by : List ℕ
   pub aggs : List Agg
   pub width : ℕ
   pub rows : Numbered
-  pub running : List Running
+  pub running : List Accumulator
   pub shown : List ℕ
 
 -- the column that an aggregate names is one of so many

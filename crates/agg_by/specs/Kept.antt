@@ -8,7 +8,7 @@
 --     Are by names aggs rows running      these answer the aggregates of these rows; they are begun at the first step, before which there are no rows
 --     Keeps kept rows      all that is kept is that of these rows
 use Rattle.std.{specs.Prelude.{◌≡◌, ℕ, List, [], Option, None, Some, filter, length, map, ℤ, pos, ◌⊎◌}, specs.List.AllByRecursion, specs.Option.option_map_or}
-use Rattle.agg_by.{specs.declared.kept.Kept.Kept, specs.declared.running.Running.Running, specs.declared.running.Running.TheVariants.{Count, Sum, Min, Max, First, Last}, specs.ByNumber.at_number, specs.Sums.{no_total, total_of}, specs.Values.{in_order, opposites}}
+use Rattle.agg_by.{specs.declared.kept.AggIndex.AggIndex, specs.declared.running.Accumulator.Accumulator, specs.declared.running.Accumulator.TheVariants.{Count, Sum, Min, Max, First, Last}, specs.ByNumber.at_number, specs.Sums.{no_total, total_of}, specs.Values.{in_order, opposites}}
 use Rattle.row_groups.specs.Members.{Grouped, Member, Names, groups_of, member_of, name_at}
 use Rattle.tick_model.{specs.Agg.{column_of, key_cells, present}, specs.Tables.{cell, same_cells}, specs.declared.plan.Agg.Agg, specs.declared.plan.Agg.TheVariants.{Count as CountAgg, Sum as SumAgg, Min as MinAgg, Max as MaxAgg, First as FirstAgg, Last as LastAgg}, specs.declared.table.PlainRow.PlainRow}
 
@@ -33,7 +33,7 @@ cells_in by column rows named = option_map_or (λ cells. present (column_of (gro
 abbrev pub AreMade : {X : Type 0} → X → (List ℤ → X) → List ℕ → Names → ℕ → List PlainRow → List X → Type 0
 AreMade none make by names column rows entries = (number : ℕ) → at_number none number entries ≡ make (cells_in by column rows (name_at number names))
 
-abbrev pub agg_of : Running → Agg
+abbrev pub agg_of : Accumulator → Agg
 agg_of Count = CountAgg
 agg_of (Sum column sums) = SumAgg column
 agg_of (Min column values) = MinAgg column
@@ -41,7 +41,7 @@ agg_of (Max column values) = MaxAgg column
 agg_of (First column) = FirstAgg column
 agg_of (Last column) = LastAgg column
 
-abbrev pub Answers : List ℕ → Names → List PlainRow → Running → Type 0
+abbrev pub Answers : List ℕ → Names → List PlainRow → Accumulator → Type 0
 Answers by names rows Count = Unit {0}
 Answers by names rows (Sum column sums) = AreMade no_total total_of by names column rows sums
 Answers by names rows (Min column values) = AreMade [] opposites by names column rows values
@@ -49,17 +49,17 @@ Answers by names rows (Max column values) = AreMade [] in_order by names column 
 Answers by names rows (First column) = Unit {0}
 Answers by names rows (Last column) = Unit {0}
 
-abbrev pub AnswerAll : List ℕ → Names → List Agg → List PlainRow → List Running → Type 0
+abbrev pub AnswerAll : List ℕ → Names → List Agg → List PlainRow → List Accumulator → Type 0
 AnswerAll by names aggs rows running = (map agg_of running ≡ aggs) × AllByRecursion (Answers by names rows) running
 
-abbrev pub Are : List ℕ → Names → List Agg → List PlainRow → List Running → Type 0
+abbrev pub Are : List ℕ → Names → List Agg → List PlainRow → List Accumulator → Type 0
 Are by names aggs rows running = ((rows ≡ []) × (running ≡ [])) ⊎ AnswerAll by names aggs rows running
 
 -- made of the same
-pub record IsMade (old new : Kept) : Type 0 where
+pub record IsMade (old new : AggIndex) : Type 0 where
   pub by : new.by ≡ old.by
   pub aggs : new.aggs ≡ old.aggs
 
-pub record Keeps (kept : Kept) (seen : List PlainRow) : Type 0 where
+pub record Keeps (kept : AggIndex) (seen : List PlainRow) : Type 0 where
   pub rows : groups_of kept.rows ≡ indexed kept.by None seen
   pub running : AnswerAll kept.by kept.rows.names kept.aggs seen kept.running.items

@@ -26,7 +26,7 @@ pub struct AggOp {
 impl Model for AggOp {
     ghost use Rattle.std.specs.Coded.{codes};
     ghost use Rattle.agg_by.specs.Aggregator.{Aggregator};
-    ghost use Rattle.agg_by.specs.contracts.running.Running as running_type;
+    ghost use Rattle.agg_by.specs.contracts.running.Accumulator as running_type;
     ghost use Rattle.tick_model.specs.contracts.plan.Agg as agg_type;
 
     ghost Value = { Aggregator };

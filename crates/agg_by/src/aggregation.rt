@@ -17,9 +17,9 @@ ghost use Rattle.tick_table.specs.Exact.{IsExact, counted, tick_of};
 ghost use Rattle.tick_table.specs.Ticking.{no_rows};
 
 use crate::firsts::{LedGroup, find_led};
-use crate::kept::Kept;
+use crate::kept::AggIndex;
 use crate::moving::Moving;
-use crate::notes::Notes;
+use crate::notes::PriorRows;
 use crate::rows::GroupRows;
 use crate::staying::staying_firsts;
 use crate::touched::TouchedGroups;
@@ -37,7 +37,7 @@ use tick_table::{Change, Steps, TickTable};
 #[derive(Drop)]
 pub struct Aggregation {
     width: u32,
-    kept: Kept,
+    kept: AggIndex,
     /// Room for the key cells of a row that comes.
     key_cells: Vec<i64>,
     /// The groups that a step touches.
@@ -51,7 +51,7 @@ pub struct Aggregation {
 impl Model for Aggregation {
     ghost use Rattle.std.specs.Coded.{codes};
     ghost use Rattle.agg_by.specs.Aggregator.{Grouping, IsAggregator};
-    ghost use Rattle.agg_by.specs.contracts.running.Running as running_type;
+    ghost use Rattle.agg_by.specs.contracts.running.Accumulator as running_type;
     ghost use Rattle.tick_model.specs.contracts.plan.Agg as agg_type;
 
     ghost Value = { Grouping };
@@ -80,7 +80,7 @@ impl Aggregation {
     {
         Aggregation {
             width,
-            kept: Kept::new(alloc, by, aggs),
+            kept: AggIndex::new(alloc, by, aggs),
             key_cells: Vec::new(alloc),
             touched: TouchedGroups::new(alloc),
             led: Vec::new(alloc),
@@ -149,7 +149,7 @@ impl Aggregation {
 /// and the room for notes.
 fn grouped_step<L: Ledger>(
     alloc: Global,
-    kept: &mut Kept,
+    kept: &mut AggIndex,
     shown: &RowSet,
     key_cells: &mut Vec<i64>,
     touched: &mut TouchedGroups,
@@ -190,7 +190,7 @@ fn grouped_step<L: Ledger>(
 /// Notes the groups that the step touches, and their rows before it.
 fn noted_groups<L: Ledger>(
     alloc: Global,
-    kept: &Kept,
+    kept: &AggIndex,
     input: &TickTable,
     moving: &Moving,
     touched: &mut TouchedGroups,
@@ -198,7 +198,7 @@ fn noted_groups<L: Ledger>(
     key_cells: &mut Vec<i64>,
     noted: Vec<i64>,
     reads: &mut Steps<L>,
-) -> Result<Notes, AllocError>
+) -> Result<PriorRows, AllocError>
     requires exact { IsExact input.now }
     requires few { length kept.now.by + length kept.now.aggs ≤ 32 }
     requires keeps { Keeps kept.now input.now.old.rows }
@@ -214,7 +214,7 @@ fn noted_groups<L: Ledger>(
 {
     touched.note_before(kept, input, moving, key_cells, reads)?;
     let before = find_led(alloc, &kept.rows, touched.numbers(), led)?;
-    Notes::take(kept, input, before, led.as_slice(), noted, reads)
+    PriorRows::take(kept, input, before, led.as_slice(), noted, reads)
 }
 
 /// The change of the rows of the groups, where `firsts` has the keys of the first rows of the touched groups now, and `shown`

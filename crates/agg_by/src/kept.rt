@@ -17,7 +17,7 @@ ghost use Rattle.agg_by.specs.Touched.{AreLed, AreNoted, is_named, starts_number
 
 use crate::firsts::LedGroup;
 use crate::moving::Moving;
-use crate::running::{Running, begun, put_all, put_values, take_all};
+use crate::running::{Accumulator, begun, put_all, put_values, take_all};
 use crate::touched::TouchedGroups;
 use row_groups::NumberedGroups;
 use row_set::RowSet;
@@ -30,27 +30,27 @@ use tick_table::{RowReader, Steps, TickTable, Version};
 
 /// The rows of an input by their key cells, and what answers each aggregate.
 #[derive(Drop)]
-pub struct Kept {
+pub struct AggIndex {
     pub(crate) by: Items<u32>,
     pub(crate) aggs: Items<Agg>,
     /// The rows by their key cells, in each group by their keys.
     pub(crate) rows: NumberedGroups,
     /// The aggregates in their order; none before the first step.
-    pub(crate) running: Vec<Running>,
+    pub(crate) running: Vec<Accumulator>,
 }
 
-impl Kept {
+impl AggIndex {
     ghost use Rattle.agg_by.specs.Kept.{Are, AnswerAll, IsMade, Keeps, indexed};
 
     /// What is kept of no rows. It takes no memory.
-    pub(crate) fn new(alloc: Global, by: Items<u32>, aggs: Items<Agg>) -> Kept
+    pub(crate) fn new(alloc: Global, by: Items<u32>, aggs: Items<Agg>) -> AggIndex
         ensures by { result.by ≡ by }
         ensures aggs { result.aggs ≡ aggs }
         ensures rows { result.rows ≡ record { width = length by; members = []; names = [] } }
         ensures running { result.running.items ≡ [] }
     {
         let width = by.len();
-        Kept {
+        AggIndex {
             by,
             aggs,
             rows: NumberedGroups::new(alloc, width),

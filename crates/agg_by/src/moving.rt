@@ -7,7 +7,7 @@ ghost use Rattle.agg_by.specs.Steps.{changing_before, coming, keeps_groups, leav
 ghost use Rattle.row_groups.specs.Members.{IsNumberUnder, groups_of};
 ghost use Rattle.tick_table.specs.Exact.{IsExact};
 
-use crate::kept::Kept;
+use crate::kept::AggIndex;
 use row_set::RowSet;
 use shown_rows::KeyPairs;
 use std::alloc::{AllocError, Global};
@@ -29,7 +29,7 @@ pub(crate) struct Moving {
 
 impl Moving {
     /// Those of the step that the input shows, where the rows before it are kept.
-    pub fn of(alloc: Global, kept: &Kept, input: &TickTable) -> Result<Moving, AllocError>
+    pub fn of(alloc: Global, kept: &AggIndex, input: &TickTable) -> Result<Moving, AllocError>
         requires exact { IsExact input.now }
         requires columns { AllByRecursion (λ column. column < input.now.new.width) kept.now.by }
         requires rows { groups_of kept.now.rows ≡ indexed kept.now.by None input.now.old.rows }

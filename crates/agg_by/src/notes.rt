@@ -14,7 +14,7 @@ ghost use Rattle.tick_model.specs.Tables.{cells_at};
 ghost use Rattle.tick_table.specs.Exact.{IsExact};
 
 use crate::firsts::LedGroup;
-use crate::kept::Kept;
+use crate::kept::AggIndex;
 use row_set::RowSet;
 use std::alloc::AllocError;
 use std::sync::ledger::Ledger;
@@ -22,7 +22,7 @@ use tick_table::{Steps, TickTable, Version};
 
 /// The rows that some groups had, by the keys of their first rows.
 #[derive(Drop)]
-pub(crate) struct Notes {
+pub(crate) struct PriorRows {
     pub keys: RowSet,
     /// The cells of the rows, one row after the other.
     cells: Vec<i64>,
@@ -30,19 +30,19 @@ pub(crate) struct Notes {
     width: usize,
 }
 
-impl Notes {
+impl PriorRows {
     ghost use Rattle.agg_by.specs.Notes.{IsNoted};
 
     /// Notes the rows of the groups with these first rows, as they are before the step. `led` has the groups, `cells` is room for
     /// their rows.
     pub fn take<L: Ledger>(
-        kept: &Kept,
+        kept: &AggIndex,
         input: &TickTable,
         keys: RowSet,
         led: &[LedGroup],
         mut cells: Vec<i64>,
         reads: &mut Steps<L>,
-    ) -> Result<Notes, AllocError>
+    ) -> Result<PriorRows, AllocError>
         requires exact { IsExact input.now }
         requires few { length kept.now.by + length kept.now.aggs ≤ 32 }
         requires keeps { Keeps kept.now input.now.old.rows }
@@ -57,7 +57,7 @@ impl Notes {
         let width = kept.by.len() + kept.aggs.len();
         cells.reserve(led.len().saturating_mul(width))?;
         put_groups(kept, input, &keys, led, &mut cells, reads)?;
-        Ok(Notes { keys, cells, width })
+        Ok(PriorRows { keys, cells, width })
     }
 
     /// The row at a position.
@@ -81,7 +81,7 @@ impl Notes {
 
     /// The room that they took, to be used again.
     pub fn into_cells(self) -> Vec<i64> {
-        let Notes {
+        let PriorRows {
             keys: _,
             cells,
             width: _,
@@ -92,7 +92,7 @@ impl Notes {
 
 /// Puts the rows of the groups with these first rows, as they are before the step, behind other cells.
 fn put_groups<L: Ledger>(
-    kept: &Kept,
+    kept: &AggIndex,
     input: &TickTable,
     keys: &RowSet,
     led: &[LedGroup],

@@ -8,8 +8,8 @@ ghost use Rattle.tick_model.specs.Agg.{agg_table};
 ghost use Rattle.tick_model.specs.Tables.{cells_at};
 
 use crate::firsts::LedGroup;
-use crate::kept::Kept;
-use crate::notes::Notes;
+use crate::kept::AggIndex;
+use crate::notes::PriorRows;
 use row_changes::Rows;
 use std::alloc::AllocError;
 use std::sync::ledger::Ledger;
@@ -20,10 +20,10 @@ use tick_table::{Steps, TickTable, Version};
 #[derive(Drop)]
 pub(crate) struct GroupRows<'a> {
     pub input: &'a TickTable,
-    pub kept: &'a Kept,
+    pub kept: &'a AggIndex,
     /// The touched groups of now.
     pub led: &'a [LedGroup],
-    pub notes: &'a Notes,
+    pub notes: &'a PriorRows,
 }
 
 impl GroupRows<'_> {

@@ -23,7 +23,7 @@ use tick_table::{Steps, TickTable, Version};
 
 /// An aggregate with what is kept for it besides the rows by their groups.
 #[derive(Drop)]
-pub enum Running {
+pub enum Accumulator {
     Count,
     /// The sum of the column in each group.
     Sum(u32, ByNumber<Total>),
@@ -35,19 +35,19 @@ pub enum Running {
     Last(u32),
 }
 
-impl Running {
+impl Accumulator {
     /// What is kept for an aggregate of no rows.
-    pub(crate) fn new(alloc: Global, agg: Agg) -> Running
+    pub(crate) fn new(alloc: Global, agg: Agg) -> Accumulator
         ensures agg { agg_of result ≡ agg }
         ensures answers { (by : List ℕ) (names : Names) → Answers by names [] result }
     {
         match agg {
-            Agg::Count => Running::Count,
-            Agg::Sum(column) => Running::Sum(column, ByNumber::new(alloc)),
-            Agg::Min(column) => Running::Min(column, ByNumber::new(alloc)),
-            Agg::Max(column) => Running::Max(column, ByNumber::new(alloc)),
-            Agg::First(column) => Running::First(column),
-            Agg::Last(column) => Running::Last(column),
+            Agg::Count => Accumulator::Count,
+            Agg::Sum(column) => Accumulator::Sum(column, ByNumber::new(alloc)),
+            Agg::Min(column) => Accumulator::Min(column, ByNumber::new(alloc)),
+            Agg::Max(column) => Accumulator::Max(column, ByNumber::new(alloc)),
+            Agg::First(column) => Accumulator::First(column),
+            Agg::Last(column) => Accumulator::Last(column),
         }
     }
 
@@ -57,10 +57,10 @@ impl Running {
         ensures { OnOk result (self.new ≡ without_row number row.now self.old) }
     {
         match self {
-            Running::Sum(column, sums) => sums.take(number, cell(row, *column)),
-            Running::Min(column, values) => values.take(number, cell(row, *column)),
-            Running::Max(column, values) => values.take(number, cell(row, *column)),
-            Running::Count | Running::First(_) | Running::Last(_) => Ok(()),
+            Accumulator::Sum(column, sums) => sums.take(number, cell(row, *column)),
+            Accumulator::Min(column, values) => values.take(number, cell(row, *column)),
+            Accumulator::Max(column, values) => values.take(number, cell(row, *column)),
+            Accumulator::Count | Accumulator::First(_) | Accumulator::Last(_) => Ok(()),
         }
     }
 
@@ -69,10 +69,10 @@ impl Running {
         ensures { OnOk result (self.new ≡ with_row number row.now self.old) }
     {
         match self {
-            Running::Sum(column, sums) => sums.put(number, cell(row, *column)),
-            Running::Min(column, values) => values.put(number, cell(row, *column)),
-            Running::Max(column, values) => values.put(number, cell(row, *column)),
-            Running::Count | Running::First(_) | Running::Last(_) => Ok(()),
+            Accumulator::Sum(column, sums) => sums.put(number, cell(row, *column)),
+            Accumulator::Min(column, values) => values.put(number, cell(row, *column)),
+            Accumulator::Max(column, values) => values.put(number, cell(row, *column)),
+            Accumulator::Count | Accumulator::First(_) | Accumulator::Last(_) => Ok(()),
         }
     }
 
@@ -92,18 +92,26 @@ impl Running {
         ensures reads { reads.new ≤ reads.old + 1 }
     {
         match self {
-            Running::Count => group.len() as i64,
-            Running::Sum(_, sums) => sums.get(number).map_or(NULL, |total| total.value()),
-            Running::Min(_, values) => values.get(number).map_or(NULL, |values| values.least()),
-            Running::Max(_, values) => values.get(number).map_or(NULL, |values| values.greatest()),
-            Running::First(column) => cell_or_null(
+            Accumulator::Count => group.len() as i64,
+            Accumulator::Sum(_, sums) => sums.get(number).map_or(NULL, |total| total.value()),
+            Accumulator::Min(_, values) => values.get(number).map_or(NULL, |values| values.least()),
+            Accumulator::Max(_, values) => values
+                .get(number)
+                .map_or(NULL, |values| values.greatest()),
+            Accumulator::First(column) => cell_or_null(
                 group.first_key(),
                 *column,
                 version,
                 input,
                 reads,
             ),
-            Running::Last(column) => cell_or_null(group.last_key(), *column, version, input, reads),
+            Accumulator::Last(column) => cell_or_null(
+                group.last_key(),
+                *column,
+                version,
+                input,
+                reads,
+            ),
         }
     }
 }
@@ -131,19 +139,19 @@ fn cell_or_null<L: Ledger>(
 }
 
 /// What is kept for aggregates of no rows.
-pub(crate) fn begun(alloc: Global, aggs: &[Agg]) -> Result<Vec<Running>, AllocError>
+pub(crate) fn begun(alloc: Global, aggs: &[Agg]) -> Result<Vec<Accumulator>, AllocError>
     ensures { IfOk result (λ all. (by : List ℕ) (names : Names) → AnswerAll by names aggs.now [] all.items) }
 {
     let mut all = Vec::new(alloc);
     for agg in aggs {
-        all.push(Running::new(alloc, *agg))?;
+        all.push(Accumulator::new(alloc, *agg))?;
     }
     Ok(all)
 }
 
 /// Puts what the aggregates say of a group behind other cells.
 pub(crate) fn put_values<L: Ledger>(
-    all: &[Running],
+    all: &[Accumulator],
     number: usize,
     group: &Group<'_>,
     version: Version,
@@ -165,7 +173,11 @@ pub(crate) fn put_values<L: Ledger>(
 }
 
 /// Takes a row out of the group with a number everywhere.
-pub(crate) fn take_all(all: &mut [Running], number: usize, row: &[i64]) -> Result<(), AllocError>
+pub(crate) fn take_all(
+    all: &mut [Accumulator],
+    number: usize,
+    row: &[i64],
+) -> Result<(), AllocError>
     requires { AllByRecursion (HasRow number row.now) all.old }
     ensures { OnOk result (all.new ≡ map (without_row number row.now) all.old) }
 {
@@ -176,7 +188,7 @@ pub(crate) fn take_all(all: &mut [Running], number: usize, row: &[i64]) -> Resul
 }
 
 /// Puts a row into the group with a number everywhere.
-pub(crate) fn put_all(all: &mut [Running], number: usize, row: &[i64]) -> Result<(), AllocError>
+pub(crate) fn put_all(all: &mut [Accumulator], number: usize, row: &[i64]) -> Result<(), AllocError>
     ensures { OnOk result (all.new ≡ map (with_row number row.now) all.old) }
 {
     for place in 0..all.len() {

@@ -12,8 +12,8 @@ ghost use Rattle.tick_model.specs.Updates.{kept_pair};
 ghost use Rattle.tick_table.specs.Exact.{IsExact};
 
 use crate::firsts::LedGroup;
-use crate::kept::Kept;
-use crate::notes::Notes;
+use crate::kept::AggIndex;
+use crate::notes::PriorRows;
 use row_set::RowSet;
 use shown_rows::KeyPairs;
 use std::alloc::{AllocError, Global};
@@ -24,9 +24,9 @@ use tick_table::TickTable;
 /// the keys of the first rows of the touched groups now, and `led` these groups.
 pub(crate) fn staying_firsts(
     alloc: Global,
-    kept: &Kept,
+    kept: &AggIndex,
     input: &TickTable,
-    notes: &Notes,
+    notes: &PriorRows,
     firsts: &RowSet,
     led: &[LedGroup],
 ) -> Result<KeyPairs, AllocError>
@@ -53,7 +53,7 @@ pub(crate) fn staying_firsts(
 
 /// The keys before and now of a first row of before, which is noted, if it is a first row with the same key cells again.
 fn staying_pair(
-    kept: &Kept,
+    kept: &AggIndex,
     input: &TickTable,
     firsts: &RowSet,
     led: &[LedGroup],
@@ -87,7 +87,7 @@ fn staying_pair(
 }
 
 /// Whether a group's row begins with these key cells.
-fn has_key_cells(kept: &Kept, cells: &[i64], row: &[i64]) -> bool
+fn has_key_cells(kept: &AggIndex, cells: &[i64], row: &[i64]) -> bool
     requires { length kept.now.by ≤ length row.now }
     ensures { result ≡ same_cells cells.now (take (length kept.now.by) row.now) }
 {

@@ -10,7 +10,7 @@ ghost use Rattle.row_groups.specs.Members.{IsNumberUnder, groups_of};
 ghost use Rattle.tick_model.specs.Tables.{keys as keys_of};
 ghost use Rattle.tick_table.specs.Exact.{IsExact};
 
-use crate::kept::Kept;
+use crate::kept::AggIndex;
 use crate::moving::Moving;
 use row_set::RowSet;
 use std::alloc::{AllocError, Global};
@@ -91,7 +91,7 @@ impl TouchedGroups {
     /// Notes the groups that a step touches, as they are before it, and forgets others.
     pub fn note_before<L: Ledger>(
         &mut self,
-        kept: &Kept,
+        kept: &AggIndex,
         input: &TickTable,
         moving: &Moving,
         key_cells: &mut Vec<i64>,
@@ -127,7 +127,7 @@ impl TouchedGroups {
     /// any group.
     fn note_coming<L: Ledger>(
         &mut self,
-        kept: &Kept,
+        kept: &AggIndex,
         input: &TickTable,
         keys: &RowSet,
         key_cells: &mut Vec<i64>,

@@ -1,7 +1,7 @@
 -- What edits of chunks do to the joined list and to the counts.
 use Rattle.std.proofs.Common.{◌≡◌, refl, ap, ap₂, sym, ◌∙◌, ℕ, zero, suc, ◌+◌, ◌-◌, ◌^◌, ◌<◌, ◌≤◌, arith, List, [], ◌∷◌, ◌++◌, length, map, take, drop, get_or, set, append_assoc, length-append, Result, Ok, Err, OnErr, false, true≢false}
 use Rattle.std.{specs.Prelude.{insert, remove, ◌==◌}, specs.List.AllByRecursion, proofs.lemmas.List.{append-nil, set-get_or}, specs.Global.Vec}
-use Rattle.chunk_list.{specs.declared.counts.Place.Place, specs.Chunked.{AreChunks, IsChunk, contents, joined, list_at, position_in}, proofs.Joined.{count_at, joined_around, joined_set, own_list}}
+use Rattle.chunk_list.{specs.declared.counts.ChunkPosition.ChunkPosition, specs.Chunked.{AreChunks, IsChunk, contents, joined, list_at, position_in}, proofs.Joined.{count_at, joined_around, joined_set, own_list}}
 use Rattle.key_lists.proofs.Parts.{every_at, every_set, every_remove, map_set, put_among, taken_among}
 
 pub map_insert : {X Y : Type 0} (f : X → Y) (xs : List X) (i : ℕ) (x : X) → map f (insert xs i x) ≡ insert (map f xs) i (f x)
@@ -15,13 +15,13 @@ map_remove f [] (suc i) = refl
 map_remove f (y ∷ xs) zero = refl
 map_remove f (y ∷ xs) (suc i) = ap (λ ys. f y ∷ ys) (map_remove f xs i)
 
-pub item_put : {X : Type 0} (ls : List (List X)) (place : Place) (x : X) → place.index < length ls → place.offset ≤ length (list_at place.index ls) → joined (set ls place.index (insert (list_at place.index ls) place.offset x)) ≡ insert (joined ls) (position_in ls place) x
+pub item_put : {X : Type 0} (ls : List (List X)) (place : ChunkPosition) (x : X) → place.index < length ls → place.offset ≤ length (list_at place.index ls) → joined (set ls place.index (insert (list_at place.index ls) place.offset x)) ≡ insert (joined ls) (position_in ls place) x
 item_put ls place x lt le =
     joined_set ls place.index (insert (list_at place.index ls) place.offset x) lt
     ∙ put_among (joined (take place.index ls)) (list_at place.index ls) (joined (drop (suc place.index) ls)) (position_in ls place) place.offset x refl le
     ∙ ap (λ xs. insert xs (position_in ls place) x) (sym (joined_around ls place.index lt))
 
-pub item_taken : {X : Type 0} (ls : List (List X)) (place : Place) → place.index < length ls → place.offset < length (list_at place.index ls) → joined (set ls place.index (remove (list_at place.index ls) place.offset)) ≡ remove (joined ls) (position_in ls place)
+pub item_taken : {X : Type 0} (ls : List (List X)) (place : ChunkPosition) → place.index < length ls → place.offset < length (list_at place.index ls) → joined (set ls place.index (remove (list_at place.index ls) place.offset)) ≡ remove (joined ls) (position_in ls place)
 item_taken ls place lt less =
     joined_set ls place.index (remove (list_at place.index ls) place.offset) lt
     ∙ taken_among (joined (take place.index ls)) (list_at place.index ls) (joined (drop (suc place.index) ls)) (position_in ls place) place.offset refl less
@@ -111,7 +111,7 @@ pub lists_gone : {X : Type 0} (chunks after : List (Vec X)) (ls : List (List X))
 lists_gone {X = X} chunks after ls i rest e put = ap contents (put ∙ remove_set chunks i rest) ∙ map_remove (λ (c : Vec X). c.items) chunks i ∙ ap (λ ks. remove ks i) e
 
 -- the last item of a chunk goes with it
-pub item_gone : {X : Type 0} (ls : List (List X)) (place : Place) → place.index < length ls → place.offset < length (list_at place.index ls) → remove (list_at place.index ls) place.offset ≡ [] → joined (remove ls place.index) ≡ remove (joined ls) (position_in ls place)
+pub item_gone : {X : Type 0} (ls : List (List X)) (place : ChunkPosition) → place.index < length ls → place.offset < length (list_at place.index ls) → remove (list_at place.index ls) place.offset ≡ [] → joined (remove ls place.index) ≡ remove (joined ls) (position_in ls place)
 item_gone ls place lt less none =
     sym (joined_left ls place.index lt)
     ∙ ap (λ l. joined (set ls place.index l)) (sym none)

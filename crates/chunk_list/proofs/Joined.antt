@@ -2,7 +2,7 @@
 use Rattle.std.proofs.Common.{◌≡◌, refl, ap, sym, ◌∙◌, ℕ, zero, suc, ◌+◌, ◌-◌, ◌<◌, arith, List, [], ◌∷◌, ◌++◌, length, map, take, drop, get_or, set, sum, append_assoc, append-nil, length-append, Some}
 use Rattle.std.{specs.Prelude.slice_get, specs.Global.Vec, proofs.lemmas.List.take-map, proofs.lemmas.Option.slice_get_read}
 use Rattle.key_lists.proofs.Parts.{drop_among, get-append, got_among, some_at, take_front}
-use Rattle.chunk_list.{specs.declared.counts.Place.Place, specs.Chunked.{AreFilled, IsPlace, contents, joined, list_at, position_in}, proofs.Sums.sum-cons}
+use Rattle.chunk_list.{specs.declared.counts.ChunkPosition.ChunkPosition, specs.Chunked.{AreFilled, IsPlace, contents, joined, list_at, position_in}, proofs.Sums.sum-cons}
 
 pub length-joined : {X : Type 0} (ls : List (List X)) → length (joined ls) ≡ sum (map length ls)
 length-joined [] = refl
@@ -46,7 +46,7 @@ own_list chunks ls i chunk e lt is =
     ∙ list_at-items chunks i chunk (omega (arith, lt, ap length e, length-lists chunks))
     ∙ ap (λ c. c.items) (sym is)
 
-pub item_got : {X : Type 0} (ls : List (List X)) (place : Place) → place.index < length ls → place.offset < length (list_at place.index ls) → slice_get (joined ls) (position_in ls place) ≡ slice_get (list_at place.index ls) place.offset
+pub item_got : {X : Type 0} (ls : List (List X)) (place : ChunkPosition) → place.index < length ls → place.offset < length (list_at place.index ls) → slice_get (joined ls) (position_in ls place) ≡ slice_get (list_at place.index ls) place.offset
 item_got ls place lt less =
     let x = some_at (list_at place.index ls) place.offset less in
     ap (λ xs. slice_get xs (position_in ls place)) (joined_around ls place.index lt)
@@ -54,14 +54,14 @@ item_got ls place lt less =
     ∙ sym (slice_get_read (list_at place.index ls) (length (list_at place.index ls)) place.offset x.0 refl less x.1)
 
 -- where a sum of counts stands, the item stands
-pub placed : {X : Type 0} (ls : List (List X)) (counts : List ℕ) (position : ℕ) (place : Place) → counts ≡ map length ls → place.index < length counts → place.offset < get_or counts place.index 0 → sum (take place.index counts) + place.offset ≡ position → IsPlace ls position place
+pub placed : {X : Type 0} (ls : List (List X)) (counts : List ℕ) (position : ℕ) (place : ChunkPosition) → counts ≡ map length ls → place.index < length counts → place.offset < get_or counts place.index 0 → sum (take place.index counts) + place.offset ≡ position → IsPlace ls position place
 placed ls counts position place e lt less at = record {
   index = omega (arith, ap length e, length-counts ls);
   offset = omega (arith, ap (λ ns. get_or ns place.index 0) e, count_at ls place.index);
   position_is = omega (arith, ap (λ ns. sum (take place.index ns)) e, ap sum (take-map length place.index ls), length-joined (take place.index ls));
 }
 
-pub run_got : {X : Type 0} (ls : List (List X)) (position : ℕ) (place : Place) (run : List X) → IsPlace ls position place → run ≡ drop place.offset (list_at place.index ls) → take (length run) (drop position (joined ls)) ≡ run
+pub run_got : {X : Type 0} (ls : List (List X)) (position : ℕ) (place : ChunkPosition) (run : List X) → IsPlace ls position place → run ≡ drop place.offset (list_at place.index ls) → take (length run) (drop position (joined ls)) ≡ run
 run_got ls position place run at is =
     ap (λ xs. take (length run) (drop position xs)) (joined_around ls place.index at.index)
     ∙ ap (take (length run)) (drop_among (joined (take place.index ls)) (list_at place.index ls) (joined (drop (suc place.index) ls)) position place.offset at.position_is (omega (arith, at.offset)) ∙ ap (λ xs. xs ++ joined (drop (suc place.index) ls)) (sym is))

@@ -2,7 +2,7 @@
 use Rattle.std.proofs.Common.{◌≡◌, ap, ap₂, sym, ◌∙◌, Bool, true, ℕ, zero, suc, ◌+◌, ◌-◌, ◌<◌, ◌≤◌, arith, List, [], ◌∷◌, ◌++◌, length, take, drop, get_or, set, append_assoc, length-append, length-drop, length-take, take_all, slice_range}
 use Rattle.std.{specs.Prelude.{remove, if◌then◌else◌}, specs.List.remove_range, proofs.Math.Seq.{drop-append-add, take-add, take-append-add}, proofs.lemmas.List.{drop-drop, drop_all, get_or-drop, length-take-le, take-append-le, take_more}}
 use Rattle.key_lists.proofs.Parts.{drop_among}
-use Rattle.chunk_list.{specs.declared.counts.Place.Place, specs.Chunked.{IsPlace, joined, list_at}, proofs.Edits.joined_left, proofs.Joined.{joined_around, joined_set}}
+use Rattle.chunk_list.{specs.declared.counts.ChunkPosition.ChunkPosition, specs.Chunked.{IsPlace, joined, list_at}, proofs.Edits.joined_left, proofs.Joined.{joined_around, joined_set}}
 
 -- some of the items between others
 left_among : {X : Type 0} (xs ys zs : List X) (n m k : ℕ) → length xs + m ≡ n → m + k ≤ length ys → xs ++ (remove_range ys m (m + k) ++ zs) ≡ remove_range (xs ++ (ys ++ zs)) n (n + k)
@@ -19,14 +19,14 @@ run_among xs ys zs n m k e le =
     ap₂ (λ i rest. take i rest) many (drop_among xs ys zs n m e (omega (arith, le)))
     ∙ take-append-le (m + k - m) (drop m ys) zs (omega (arith, le, length-drop m ys))
 
-pub run_out : {X : Type 0} (ls : List (List X)) (place : Place) (n k : ℕ) → IsPlace ls n place → place.offset + k ≤ length (list_at place.index ls)
+pub run_out : {X : Type 0} (ls : List (List X)) (place : ChunkPosition) (n k : ℕ) → IsPlace ls n place → place.offset + k ≤ length (list_at place.index ls)
     → joined (set ls place.index (remove_range (list_at place.index ls) place.offset (place.offset + k))) ≡ remove_range (joined ls) n (n + k)
 run_out ls place n k at le =
     joined_set ls place.index (remove_range (list_at place.index ls) place.offset (place.offset + k)) at.index
     ∙ left_among (joined (take place.index ls)) (list_at place.index ls) (joined (drop (suc place.index) ls)) n place.offset k at.position_is le
     ∙ ap (λ xs. remove_range xs n (n + k)) (sym (joined_around ls place.index at.index))
 
-pub run_is : {X : Type 0} (ls : List (List X)) (place : Place) (n k : ℕ) → IsPlace ls n place → place.offset + k ≤ length (list_at place.index ls)
+pub run_is : {X : Type 0} (ls : List (List X)) (place : ChunkPosition) (n k : ℕ) → IsPlace ls n place → place.offset + k ≤ length (list_at place.index ls)
     → slice_range (list_at place.index ls) place.offset (place.offset + k) ≡ slice_range (joined ls) n (n + k)
 run_is ls place n k at le =
     sym
@@ -38,7 +38,7 @@ none_left : {X : Type 0} (xs : List X) (n k : ℕ) → k ≡ length xs → n + k
 none_left xs zero k e le = drop_all (0 + k) xs (omega (arith, e))
 none_left xs (suc n) k e le = absurd (omega (arith, e, le))
 
-pub chunk_out : {X : Type 0} (ls : List (List X)) (place : Place) (n k : ℕ) → IsPlace ls n place → k ≡ length (list_at place.index ls) → place.offset + k ≤ length (list_at place.index ls) → joined (remove ls place.index) ≡ remove_range (joined ls) n (n + k)
+pub chunk_out : {X : Type 0} (ls : List (List X)) (place : ChunkPosition) (n k : ℕ) → IsPlace ls n place → k ≡ length (list_at place.index ls) → place.offset + k ≤ length (list_at place.index ls) → joined (remove ls place.index) ≡ remove_range (joined ls) n (n + k)
 chunk_out ls place n k at e le =
     sym (joined_left ls place.index at.index)
     ∙ ap (λ l. joined (set ls place.index l)) (sym (none_left (list_at place.index ls) place.offset k e le))

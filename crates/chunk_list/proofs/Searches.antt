@@ -3,7 +3,7 @@ use Rattle.std.proofs.Common.{◌≡◌, refl, ap, sym, ◌∙◌, ℕ, zero, su
 use Rattle.std.{specs.Prelude.slice_get, specs.List.{AllWithin, HoldsAt}, specs.List.Sorted.{IsPartitionPoint, IsPartitionedBy}, specs.Fn.{AlwaysReturns, Called}, proofs.lemmas.Bool.{cases_lt, false_from_ne_true}}
 use Rattle.key_lists.proofs.Parts.{get-append}
 use denote.Param.Members.{Mut}
-use Rattle.chunk_list.{specs.declared.counts.Place.Place, specs.Chunked.{joined, list_at, position_in}, proofs.Joined.joined_around}
+use Rattle.chunk_list.{specs.declared.counts.ChunkPosition.ChunkPosition, specs.Chunked.{joined, list_at, position_in}, proofs.Joined.joined_around}
 
 pub holds_at : {X : Type 0} (P : X → Type 0) (xs : List X) (i : ℕ) (x : X) → slice_get xs i ≡ Some x → P x → HoldsAt P xs i
 holds_at P [] i x e p d = absurd (cc)
@@ -45,7 +45,7 @@ next_within ls i n le lt =
       | inr all ↦ absurd (omega (arith, le, lt, ap (λ ks. length (joined ks)) (take_all (suc i) ls all)))
     ]
 
-pub position_within : {X : Type 0} (ls : List (List X)) (place : Place) → place.offset ≤ length (list_at place.index ls) → position_in ls place ≤ length (joined ls)
+pub position_within : {X : Type 0} (ls : List (List X)) (place : ChunkPosition) → place.offset ≤ length (list_at place.index ls) → position_in ls place ≤ length (joined ls)
 position_within ls place le = omega (arith, le, start_next ls place.index, start_within ls (suc place.index))
 
 -- where all items end

@@ -6,7 +6,7 @@
 --     IsReplaced few most old new      one chunk is replaced by from `few` to `most` others, or these come where there was none
 --     IsSplit index list old new      the chunk at an index is replaced by two that are this list
 use Rattle.std.{specs.Prelude.{ℕ, suc, ◌≡◌, ◌+◌, ◌-◌, ◌^◌, ◌<◌, ◌≤◌, List, [], ◌++◌, drop, insert, length, map, slice_set, take, slice_index_or}, specs.List.{AllByRecursion, flat_map}, specs.Global.Vec}
-use Rattle.chunk_list.specs.declared.counts.Place.{Place}
+use Rattle.chunk_list.specs.declared.counts.ChunkPosition.{ChunkPosition}
 
 abbrev pub contents : {T : Type 0} → List (Vec T) → List (List T)
 contents = map (λ chunk. chunk.items)
@@ -17,7 +17,7 @@ joined = flat_map (λ list. list)
 abbrev pub list_at : {T : Type 0} → ℕ → List (List T) → List T
 list_at index lists = slice_index_or lists index []
 
-abbrev pub position_in : {T : Type 0} → List (List T) → Place → ℕ
+abbrev pub position_in : {T : Type 0} → List (List T) → ChunkPosition → ℕ
 position_in lists place = length (joined (take place.index lists)) + place.offset
 
 abbrev pub AreFilled : {T : Type 0} → List (List T) → Type 0
@@ -50,7 +50,7 @@ pub record AreChunks {T : Type 0} (lists : List (List T)) (counts : List ℕ) : 
   pub few : length (joined lists) ≤ 2 ^ 62
 
 -- the item at a position stands in a chunk, behind so many others of it
-pub record IsPlace {T : Type 0} (lists : List (List T)) (position : ℕ) (place : Place) : Type 0 where
+pub record IsPlace {T : Type 0} (lists : List (List T)) (position : ℕ) (place : ChunkPosition) : Type 0 where
   pub index : place.index < length lists
   pub offset : place.offset < length (list_at place.index lists)
   pub position_is : position_in lists place ≡ position

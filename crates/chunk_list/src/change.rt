@@ -2,7 +2,7 @@
 ghost use Rattle.std.specs.Prelude.{◌≡◌};
 
 /// Changes an item in its place.
-pub trait Change<T> {
+pub trait ItemChange<T> {
     /// What has to hold of an item.
     ghost ready: { Self → T → Type 0 };
 

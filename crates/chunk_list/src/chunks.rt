@@ -5,8 +5,8 @@ ghost use Rattle.std.specs.List.{AllByRecursion, remove_range};
 ghost use Rattle.std.specs.List.Sorted.{IsPartitionedBy, IsPartitionPoint};
 ghost use Rattle.chunk_list.specs.Chunked.{IsPlace, IsSplit, joined, list_at, position_in};
 
-use crate::change::Change;
-use crate::counts::{Place, put_within};
+use crate::change::ItemChange;
+use crate::counts::{ChunkPosition, put_within};
 use std::alloc::{AllocError, Global};
 use std::marker::Model;
 
@@ -66,7 +66,7 @@ fn put_into_half<T: Drop>(lower: &mut Vec<T>, upper: &mut Vec<T>, offset: usize,
 }
 
 /// Changes each item of a chunk in its place.
-fn change_items<T, C: Change<T>>(items: &mut [T], change: &C)
+fn change_items<T, C: ItemChange<T>>(items: &mut [T], change: &C)
     requires { AllByRecursion (C.ready change.now) items.old }
     ensures { items.new ≡ map (C.changed change.now) items.old }
 {
@@ -123,7 +123,7 @@ impl<T: Drop> Chunks<T> {
     }
 
     /// Where the item at a position stands. The chunks before it are looked at one by one.
-    pub fn find(&self, position: usize) -> Place
+    pub fn find(&self, position: usize) -> ChunkPosition
         requires { position < length (joined self.now) }
         ensures { IsPlace self.now position result }
     {
@@ -133,7 +133,7 @@ impl<T: Drop> Chunks<T> {
             offset -= self.chunk(index).len();
             index += 1;
         }
-        Place { index, offset }
+        ChunkPosition { index, offset }
     }
 
     /// How many items are in the first chunks.
@@ -150,7 +150,7 @@ impl<T: Drop> Chunks<T> {
     }
 
     /// Where the item behind a place stands, if there is one: behind the end of a chunk that is the first of the next.
-    pub fn next_item(&self, place: Place) -> Option<Place>
+    pub fn next_item(&self, place: ChunkPosition) -> Option<ChunkPosition>
         requires { place.offset ≤ length (list_at place.index self.now) }
         ensures found { IfSome result (λ found. IsPlace self.now (position_in self.now place) found) }
         ensures none { result ≡ None → length (joined self.now) ≤ position_in self.now place }
@@ -165,12 +165,12 @@ impl<T: Drop> Chunks<T> {
         if index >= self.chunks.len() {
             return None;
         }
-        Some(Place { index, offset: 0 })
+        Some(ChunkPosition { index, offset: 0 })
     }
 
     /// The place behind the items that pass a test, where no item that passes it stands behind one that fails it: a binary search
     /// by the first items of the chunks, and then one in a chunk.
-    pub fn partition_point<P: FnMut(&T) -> bool>(&self, mut pred: P) -> Place
+    pub fn partition_point<P: FnMut(&T) -> bool>(&self, mut pred: P) -> ChunkPosition
         requires { P.IsAlwaysCallable pred }
         ensures index { result.index ≤ length self.now }
         ensures within { position_in self.now result ≤ length (joined self.now) }
@@ -178,7 +178,7 @@ impl<T: Drop> Chunks<T> {
     {
         let mut size = self.len();
         if size == 0 {
-            return Place {
+            return ChunkPosition {
                 index: 0,
                 offset: 0,
             };
@@ -194,7 +194,7 @@ impl<T: Drop> Chunks<T> {
                 size -= half;
             }
         }
-        Place {
+        ChunkPosition {
             index: base,
             offset: self.chunk(base).partition_point(pred),
         }
@@ -223,7 +223,7 @@ impl<T: Drop> Chunks<T> {
     }
 
     /// Puts an item in at a place of a chunk, of which two are made. Behind its end the item begins the second.
-    fn split(&mut self, place: Place, item: T, most: usize) -> Result<(), AllocError>
+    fn split(&mut self, place: ChunkPosition, item: T, most: usize) -> Result<(), AllocError>
         requires index { place.index < length self.old }
         requires two { 2 ≤ length (list_at place.index self.old) }
         requires offset { place.offset ≤ length (list_at place.index self.old) }
@@ -243,7 +243,7 @@ impl<T: Drop> Chunks<T> {
 
     /// Puts an item in at a place. A chunk that has the most items becomes two, the second of which has room for so many, or
     /// begins with the item where this stands behind its end. After a refusal all is as before.
-    pub fn insert(&mut self, place: Place, item: T, most: usize) -> Result<(), AllocError>
+    pub fn insert(&mut self, place: ChunkPosition, item: T, most: usize) -> Result<(), AllocError>
         requires index { place.index < length self.old }
         requires offset { place.offset ≤ length (list_at place.index self.old) }
         requires most { 2 ≤ most }
@@ -272,11 +272,11 @@ impl<T: Drop> Chunks<T> {
         }
         let index = count - 1;
         let offset = self.chunk(index).len();
-        self.insert(Place { index, offset }, item, most)
+        self.insert(ChunkPosition { index, offset }, item, most)
     }
 
     /// Takes the item at a place out, and its chunk where no other item is there.
-    pub fn remove(&mut self, place: Place) -> T
+    pub fn remove(&mut self, place: ChunkPosition) -> T
         requires index { place.index < length self.old }
         requires offset { place.offset < length (list_at place.index self.old) }
         ensures item { slice_get (joined self.old) (position_in self.old place) ≡ Some result }
@@ -293,7 +293,7 @@ impl<T: Drop> Chunks<T> {
     }
 
     /// Takes items of a chunk out, so many from a place on, and puts them behind others. A chunk of which none is left goes.
-    pub(crate) fn remove_run(&mut self, place: Place, count: usize, out: &mut Vec<T>)
+    pub(crate) fn remove_run(&mut self, place: ChunkPosition, count: usize, out: &mut Vec<T>)
     where
         T: Copy,
         requires index { place.index < length self.old }
@@ -354,7 +354,7 @@ impl<T: Drop> Chunks<T> {
     }
 
     /// Changes each item in its place.
-    pub(crate) fn change_all<C: Change<T>>(&mut self, change: &C)
+    pub(crate) fn change_all<C: ItemChange<T>>(&mut self, change: &C)
         requires { AllByRecursion (C.ready change.now) (joined self.old) }
         ensures { self.new ≡ map (map (C.changed change.now)) self.old }
     {

@@ -10,7 +10,7 @@ const BLOCK_LEN: usize = 64;
 
 /// A number's index, and how far a sum goes into this number.
 #[derive(Clone, Copy)]
-pub struct Place {
+pub struct ChunkPosition {
     pub index: usize,
     pub offset: usize,
 }
@@ -95,7 +95,7 @@ fn end_block(blocks: &mut Vec<usize>, numbers: usize)
 }
 
 /// Where a sum stands in numbers: the number into which it goes.
-fn find_in(numbers: &[usize], position: usize) -> Place
+fn find_in(numbers: &[usize], position: usize) -> ChunkPosition
     requires { position < sum numbers.now }
     ensures index { result.index < length numbers.now }
     ensures offset { result.offset < slice_index numbers.now result.index }
@@ -107,7 +107,7 @@ fn find_in(numbers: &[usize], position: usize) -> Place
         rest -= numbers[index];
         index += 1;
     }
-    Place {
+    ChunkPosition {
         index,
         offset: rest,
     }
@@ -151,7 +151,7 @@ impl Counts {
     }
 
     /// Where a sum stands: the number into which it goes. That it is the last one is seen without a look at the others.
-    pub fn find(&self, position: usize) -> Place
+    pub fn find(&self, position: usize) -> ChunkPosition
         requires { position < sum self.now }
         ensures index { result.index < length self.now }
         ensures offset { result.offset < slice_index self.now result.index }
@@ -160,7 +160,7 @@ impl Counts {
         let last = self.each.len() - 1;
         let before_last = self.total - self.each[last];
         if position >= before_last {
-            return Place {
+            return ChunkPosition {
                 index: last,
                 offset: position - before_last,
             };
@@ -168,7 +168,7 @@ impl Counts {
         let block = find_in(&self.blocks, position);
         let start = block.index * BLOCK_LEN;
         let place = find_in(&self.each[start..], block.offset);
-        Place {
+        ChunkPosition {
             index: start + place.index,
             offset: place.offset,
         }

@@ -6,7 +6,7 @@ mod chunks;
 mod counts;
 mod list;
 
-pub use change::Change;
+pub use change::ItemChange;
 pub use chunks::Chunks;
-pub use counts::{Counts, Place};
+pub use counts::{ChunkPosition, Counts};
 pub use list::ChunkList;

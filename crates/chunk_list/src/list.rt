@@ -5,9 +5,9 @@ ghost use Rattle.std.specs.List.Sorted.{IsPartitionedBy, IsPartitionPoint};
 ghost use Rattle.std.specs.Fn.{ComputesKey};
 ghost use Rattle.chunk_list.specs.Chunked.{IsChunk, IsPlace, IsReplaced, joined, list_at, position_in};
 
-use crate::change::Change;
+use crate::change::ItemChange;
 use crate::chunks::Chunks;
-use crate::counts::{Counts, Place};
+use crate::counts::{ChunkPosition, Counts};
 use std::alloc::{AllocError, Global};
 use std::marker::Model;
 
@@ -72,7 +72,7 @@ impl<T: Drop> ChunkList<T> {
     }
 
     /// Where the item at a position stands.
-    fn find(&self, position: usize) -> Place
+    fn find(&self, position: usize) -> ChunkPosition
         requires { position < length (joined self.now) }
         ensures { IsPlace self.now position result }
     {
@@ -134,7 +134,7 @@ impl<T: Drop> ChunkList<T> {
     }
 
     /// Puts an item in at a place of a chunk, which becomes two if it is full. After a refusal all is as before.
-    fn put(&mut self, place: Place, item: T) -> Result<(), AllocError>
+    fn put(&mut self, place: ChunkPosition, item: T) -> Result<(), AllocError>
         requires index { place.index < length self.old }
         requires offset { place.offset ≤ length (list_at place.index self.old) }
         requires few { length (joined self.old) < 2 ^ 62 }
@@ -195,7 +195,7 @@ impl<T: Drop> ChunkList<T> {
         }
         let index = count - 1;
         let offset = self.chunks.chunk(index).len();
-        self.put(Place { index, offset }, item)
+        self.put(ChunkPosition { index, offset }, item)
     }
 
     /// How many items there is room for in the last chunk.
@@ -356,7 +356,7 @@ impl<T: Drop> ChunkList<T> {
     }
 
     /// Changes each item in its place.
-    pub fn change_all<C: Change<T>>(&mut self, change: &C)
+    pub fn change_all<C: ItemChange<T>>(&mut self, change: &C)
         requires { AllByRecursion (C.ready change.now) (joined self.old) }
         ensures chunks { self.new ≡ map (map (C.changed change.now)) self.old }
         ensures sizes { AllByRecursion IsChunk self.new }

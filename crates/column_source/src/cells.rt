@@ -5,7 +5,7 @@ ghost use Rattle.column_source.specs.Edits.{AreAllowed, IsAllowed, edited, edite
 ghost use Rattle.column_source.specs.Entries.{IsEntryList, cell_under, keys_of, left_entries, moved_entries, put};
 
 use crate::edit::Edit;
-use crate::version::Version;
+use crate::version::KeyedCells;
 use row_set::RowSet;
 use shift_data::ShiftData;
 use std::alloc::{AllocError, Global};
@@ -15,9 +15,9 @@ use std::marker::Model;
 /// The cells of one column by row key: those of now, and those from before the step. A step costs as much as its edits, each of
 /// which is made twice: in the cells of now, and in the next step in those from before.
 pub struct Column {
-    current: Version,
+    current: KeyedCells,
     /// The cells from before the step. Until the step has its first edit they may lack edits of the last one.
-    previous: Version,
+    previous: KeyedCells,
     /// The edits that lead from the previous cells to the current ones.
     edits: VecDeque<Edit>,
     /// Whether a step has begun that has no edit yet.
@@ -54,8 +54,8 @@ impl Column {
         ensures before { result.before ≡ [] }
     {
         Column {
-            current: Version::new(alloc),
-            previous: Version::new(alloc),
+            current: KeyedCells::new(alloc),
+            previous: KeyedCells::new(alloc),
             edits: VecDeque::new(alloc),
             begun: false,
         }
@@ -154,7 +154,7 @@ impl Column {
 /// After a refusal the step is begun as it was, and the others stay.
 fn bring_on(
     begun: &mut bool,
-    previous: &mut Version,
+    previous: &mut KeyedCells,
     edits: &mut VecDeque<Edit>,
 ) -> Result<(), AllocError>
     requires { AreAllowed edits.old.items previous.old }

@@ -15,13 +15,13 @@ use std::marker::Model;
 /// The cells by row key at one time. A contract sees the entries, rising by key. A row is put in or taken out at the cost of one
 /// chunk of cells and of the ranges of keys, and a shift moves keys alone.
 #[derive(Drop)]
-pub(crate) struct Version {
+pub(crate) struct KeyedCells {
     keys: RowSet,
     /// The cells in the order of their keys.
     cells: ChunkList<i64>,
 }
 
-impl Model for Version {
+impl Model for KeyedCells {
     ghost use Rattle.std.specs.Prelude.{◌≡◌, List, length};
     ghost use Rattle.chunk_list.specs.Chunked.{joined};
     ghost use Rattle.column_source.specs.Entries.{Entry, paired};
@@ -33,22 +33,22 @@ impl Model for Version {
     ghost invariant = { λ version. length (joined version.cells) ≡ length version.keys };
 }
 
-impl Version {
+impl KeyedCells {
     /// No cells. They take no memory.
-    pub(crate) fn new(alloc: Global) -> Version
+    pub(crate) fn new(alloc: Global) -> KeyedCells
         ensures { result ≡ [] }
     {
-        Version {
+        KeyedCells {
             keys: RowSet::new(alloc),
             cells: ChunkList::new(alloc),
         }
     }
 
     /// The same cells.
-    pub(crate) fn copy(&self) -> Result<Version, AllocError>
+    pub(crate) fn copy(&self) -> Result<KeyedCells, AllocError>
         ensures { IfOk result (λ copy. copy ≡ self.now) }
     {
-        Ok(Version {
+        Ok(KeyedCells {
             keys: self.keys.copy()?,
             cells: self.cells.copy()?,
         })

@@ -13,9 +13,9 @@ pub(crate) enum Fault {
     /// The standard output could not be written.
     Output,
     /// There is no run.
-    Read(feed_run::Stop),
+    Read(feed_run::LoadStop),
     /// The run goes no further.
-    Step(update_graph::Stop),
+    Step(update_graph::LoadStop),
     /// The mirror does not take a change.
     Mirror(MirrorFault),
     /// The plan has no such table.
@@ -40,14 +40,14 @@ impl From<SinkFault> for Fault {
     }
 }
 
-impl From<feed_run::Stop> for Fault {
-    fn from(stop: feed_run::Stop) -> Fault {
+impl From<feed_run::LoadStop> for Fault {
+    fn from(stop: feed_run::LoadStop) -> Fault {
         Fault::Read(stop)
     }
 }
 
-impl From<update_graph::Stop> for Fault {
-    fn from(stop: update_graph::Stop) -> Fault {
+impl From<update_graph::LoadStop> for Fault {
+    fn from(stop: update_graph::LoadStop) -> Fault {
         Fault::Step(stop)
     }
 }

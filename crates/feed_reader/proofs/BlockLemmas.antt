@@ -3,8 +3,8 @@ use Rattle.std.proofs.Common.{◌≡◌, ℕ, ◌+◌, ◌<◌, ◌≤◌, Bool,
 use Rattle.std.{specs.List.{AllByRecursion, filter_map, prefix_len}, proofs.lemmas.Bool.{ltb-true, ltb-false, lt-ltb, le-ltb, eq-eqb, ne_eqb, cases_lt}}
 use Rattle.key_lists.proofs.Every.{every_weaker}
 use Rattle.tick_model.{specs.declared.plan.Plan.Plan, specs.declared.update.KeyRange.KeyRange, specs.declared.update.ShiftRange.ShiftRange, specs.Plans.columns_at, specs.LawfulRuns.is_source_number}
-use Rattle.feed_reader.{specs.Said.{Entry, Block, Removed, Shift, Added, Modified, End}, specs.declared.place.Part.Part, specs.declared.place.Place.Place, specs.declared.place.Place.TheVariants.{Outside, Inside}, specs.declared.raw.RawBatch.RawBatch, specs.declared.raw.RawBlock.RawBlock, specs.declared.raw.RawRow.RawRow, specs.Feeds.{is_of_block, removed_range, shift_range, added_row, modified_row, block_with, blocks_from, batches_on, batches_after, batches_of}, specs.Places.{Opened, opened, is_past, is_outside, part_rank, passed, place_after}, proofs.FeedLemmas.own-more, proofs.Orderly.{StandsAt, IsRange, IsMove, IsRawRow, Orderly}}
-use Rattle.feed_reader.specs.declared.place.Part.TheVariants as Parts
+use Rattle.feed_reader.{specs.Said.{Entry, Block, Removed, Shift, Added, Modified, End}, specs.declared.place.BlockPart.BlockPart, specs.declared.place.BlockState.BlockState, specs.declared.place.BlockState.TheVariants.{Outside, Inside}, specs.declared.raw.RawBatch.RawBatch, specs.declared.raw.RawBlock.RawBlock, specs.declared.raw.RawRow.RawRow, specs.Feeds.{is_of_block, removed_range, shift_range, added_row, modified_row, block_with, blocks_from, batches_on, batches_after, batches_of}, specs.Places.{Opened, opened, is_past, is_outside, part_rank, passed, place_after}, proofs.FeedLemmas.own-more, proofs.Orderly.{StandsAt, IsRange, IsMove, IsRawRow, Orderly}}
+use Rattle.feed_reader.specs.declared.place.BlockPart.TheVariants as Parts
 
 -- each begins past the end of the one before it
 abbrev pub Ascends : {X : Type 0} → (X → ℕ) → (X → ℕ) → List X → Type 0
@@ -76,25 +76,25 @@ abbrev row_key : RawRow → ℕ
 row_key row = row.key
 
 -- what stands so far of each part
-abbrev RemovedStand : ℕ → Part → Option ℕ → List Entry → Type 0
+abbrev RemovedStand : ℕ → BlockPart → Option ℕ → List Entry → Type 0
 RemovedStand table at last own = Stand (λ (range : KeyRange). range.first) (λ range. range.last) IsRange (opened_at table (part_rank at) last 0) (filter_map removed_range own)
 
-abbrev ShiftsStand : ℕ → Part → Option ℕ → List Entry → Type 0
+abbrev ShiftsStand : ℕ → BlockPart → Option ℕ → List Entry → Type 0
 ShiftsStand table at last own = Stand (λ (range : ShiftRange). range.begin) (λ range. range.end) IsMove (opened_at table (part_rank at) last 1) (filter_map shift_range own)
 
-abbrev AddedStand : Plan → ℕ → Part → Option ℕ → List Entry → Type 0
+abbrev AddedStand : Plan → ℕ → BlockPart → Option ℕ → List Entry → Type 0
 AddedStand plan table at last own = Stand row_key row_key (IsRawRow (columns_at plan.nodes table)) (opened_at table (part_rank at) last 2) (filter_map added_row own)
 
-abbrev ModifiedStand : Plan → ℕ → Part → Option ℕ → List Entry → Type 0
+abbrev ModifiedStand : Plan → ℕ → BlockPart → Option ℕ → List Entry → Type 0
 ModifiedStand plan table at last own = Stand row_key row_key (IsRawRow (columns_at plan.nodes table)) (opened_at table (part_rank at) last 3) (filter_map modified_row own)
 
-pub record PartsStand (plan : Plan) (table : ℕ) (at : Part) (last : Option ℕ) (own : List Entry) : Type 0 where
+pub record PartsStand (plan : Plan) (table : ℕ) (at : BlockPart) (last : Option ℕ) (own : List Entry) : Type 0 where
   pub removed : RemovedStand table at last own
   pub shifts : ShiftsStand table at last own
   pub added : AddedStand plan table at last own
   pub modified : ModifiedStand plan table at last own
 
-none_stand : (plan : Plan) (table : ℕ) (at : Part) (last : Option ℕ) → PartsStand plan table at last []
+none_stand : (plan : Plan) (table : ℕ) (at : BlockPart) (last : Option ℕ) → PartsStand plan table at last []
 none_stand plan table at last = record {
   removed = stand_nil (λ (range : KeyRange). range.first) (λ range. range.last) IsRange (opened_at table (part_rank at) last 0);
   shifts = stand_nil (λ (range : ShiftRange). range.begin) (λ range. range.end) IsMove (opened_at table (part_rank at) last 1);
@@ -103,21 +103,21 @@ none_stand plan table at last = record {
 }
 
 -- a part goes on behind a record of another
-module _ (plan : Plan) (table : ℕ) (at : Part) (last : Option ℕ) (key : ℕ) (own : List Entry) where
-  removed_goes : (other : Part) → ltb (part_rank other) (part_rank at) ≡ false → ¬ (0 ≡ part_rank other) → RemovedStand table other (Some key) own → RemovedStand table at last own
+module _ (plan : Plan) (table : ℕ) (at : BlockPart) (last : Option ℕ) (key : ℕ) (own : List Entry) where
+  removed_goes : (other : BlockPart) → ltb (part_rank other) (part_rank at) ≡ false → ¬ (0 ≡ part_rank other) → RemovedStand table other (Some key) own → RemovedStand table at last own
   removed_goes other may differs more = stand_other (λ (range : KeyRange). range.first) (λ range. range.last) IsRange table (part_rank at) last 0 (part_rank other) key (filter_map removed_range own) may differs more
 
-  shifts_go : (other : Part) → ltb (part_rank other) (part_rank at) ≡ false → ¬ (1 ≡ part_rank other) → ShiftsStand table other (Some key) own → ShiftsStand table at last own
+  shifts_go : (other : BlockPart) → ltb (part_rank other) (part_rank at) ≡ false → ¬ (1 ≡ part_rank other) → ShiftsStand table other (Some key) own → ShiftsStand table at last own
   shifts_go other may differs more = stand_other (λ (range : ShiftRange). range.begin) (λ range. range.end) IsMove table (part_rank at) last 1 (part_rank other) key (filter_map shift_range own) may differs more
 
-  added_goes : (other : Part) → ltb (part_rank other) (part_rank at) ≡ false → ¬ (2 ≡ part_rank other) → AddedStand plan table other (Some key) own → AddedStand plan table at last own
+  added_goes : (other : BlockPart) → ltb (part_rank other) (part_rank at) ≡ false → ¬ (2 ≡ part_rank other) → AddedStand plan table other (Some key) own → AddedStand plan table at last own
   added_goes other may differs more = stand_other row_key row_key (IsRawRow (columns_at plan.nodes table)) table (part_rank at) last 2 (part_rank other) key (filter_map added_row own) may differs more
 
-  modified_goes : (other : Part) → ltb (part_rank other) (part_rank at) ≡ false → ¬ (3 ≡ part_rank other) → ModifiedStand plan table other (Some key) own → ModifiedStand plan table at last own
+  modified_goes : (other : BlockPart) → ltb (part_rank other) (part_rank at) ≡ false → ¬ (3 ≡ part_rank other) → ModifiedStand plan table other (Some key) own → ModifiedStand plan table at last own
   modified_goes other may differs more = stand_other row_key row_key (IsRawRow (columns_at plan.nodes table)) table (part_rank at) last 3 (part_rank other) key (filter_map modified_row own) may differs more
 
 -- one more record of a block
-removed_stands : (plan : Plan) (table : ℕ) (at : Part) (last : Option ℕ) (range : KeyRange) (own : List Entry) → StandsAt (opened_at table (part_rank at) last 0) range.first (λ _. IsRange range) → PartsStand plan table Parts.Removed (Some range.last) own → PartsStand plan table at last (Removed range ∷ own)
+removed_stands : (plan : Plan) (table : ℕ) (at : BlockPart) (last : Option ℕ) (range : KeyRange) (own : List Entry) → StandsAt (opened_at table (part_rank at) last 0) range.first (λ _. IsRange range) → PartsStand plan table Parts.Removed (Some range.last) own → PartsStand plan table at last (Removed range ∷ own)
 removed_stands plan table at last range own stands more =
     let parts = stands_parts table (ltb 0 (part_rank at)) (cond (eqb 0 (part_rank at)) last None) range.first (λ _. IsRange range) stands in
     record {
@@ -127,7 +127,7 @@ removed_stands plan table at last range own stands more =
       modified = modified_goes plan table at last range.last own Parts.Removed parts.0 (λ e. cc e) more.modified;
     }
 
-shift_stands : (plan : Plan) (table : ℕ) (at : Part) (last : Option ℕ) (range : ShiftRange) (own : List Entry) → StandsAt (opened_at table (part_rank at) last 1) range.begin (λ _. IsMove range) → PartsStand plan table Parts.Shifts (Some range.end) own → PartsStand plan table at last (Shift range ∷ own)
+shift_stands : (plan : Plan) (table : ℕ) (at : BlockPart) (last : Option ℕ) (range : ShiftRange) (own : List Entry) → StandsAt (opened_at table (part_rank at) last 1) range.begin (λ _. IsMove range) → PartsStand plan table Parts.Shifts (Some range.end) own → PartsStand plan table at last (Shift range ∷ own)
 shift_stands plan table at last range own stands more =
     let parts = stands_parts table (ltb 1 (part_rank at)) (cond (eqb 1 (part_rank at)) last None) range.begin (λ _. IsMove range) stands in
     record {
@@ -137,7 +137,7 @@ shift_stands plan table at last range own stands more =
       modified = modified_goes plan table at last range.end own Parts.Shifts parts.0 (λ e. cc e) more.modified;
     }
 
-added_stands : (plan : Plan) (table : ℕ) (at : Part) (last : Option ℕ) (row : RawRow) (own : List Entry) → StandsAt (opened_at table (part_rank at) last 2) row.key (λ t. IsRawRow (columns_at plan.nodes t) row) → PartsStand plan table Parts.Added (Some row.key) own → PartsStand plan table at last (Added row ∷ own)
+added_stands : (plan : Plan) (table : ℕ) (at : BlockPart) (last : Option ℕ) (row : RawRow) (own : List Entry) → StandsAt (opened_at table (part_rank at) last 2) row.key (λ t. IsRawRow (columns_at plan.nodes t) row) → PartsStand plan table Parts.Added (Some row.key) own → PartsStand plan table at last (Added row ∷ own)
 added_stands plan table at last row own stands more =
     let parts = stands_parts table (ltb 2 (part_rank at)) (cond (eqb 2 (part_rank at)) last None) row.key (λ t. IsRawRow (columns_at plan.nodes t) row) stands in
     record {
@@ -147,7 +147,7 @@ added_stands plan table at last row own stands more =
       modified = modified_goes plan table at last row.key own Parts.Added parts.0 (λ e. cc e) more.modified;
     }
 
-modified_stands : (plan : Plan) (table : ℕ) (at : Part) (last : Option ℕ) (row : RawRow) (own : List Entry) → StandsAt (opened_at table (part_rank at) last 3) row.key (λ t. IsRawRow (columns_at plan.nodes t) row) → PartsStand plan table Parts.Modified (Some row.key) own → PartsStand plan table at last (Modified row ∷ own)
+modified_stands : (plan : Plan) (table : ℕ) (at : BlockPart) (last : Option ℕ) (row : RawRow) (own : List Entry) → StandsAt (opened_at table (part_rank at) last 3) row.key (λ t. IsRawRow (columns_at plan.nodes t) row) → PartsStand plan table Parts.Modified (Some row.key) own → PartsStand plan table at last (Modified row ∷ own)
 modified_stands plan table at last row own stands more =
     let parts = stands_parts table (ltb 3 (part_rank at)) (cond (eqb 3 (part_rank at)) last None) row.key (λ t. IsRawRow (columns_at plan.nodes t) row) stands in
     record {
@@ -157,7 +157,7 @@ modified_stands plan table at last row own stands more =
       modified = stand_same row_key row_key (IsRawRow (columns_at plan.nodes table)) table (part_rank at) last 3 row (filter_map modified_row own) parts.0 parts.1 (omega arith) parts.2 more.modified;
     }
 
-parts_stand : (plan : Plan) (table : ℕ) (at : Part) (last : Option ℕ) (steps : ℕ) (entries : List Entry) → Orderly plan (Inside table at last) steps entries → PartsStand plan table at last (own_of entries)
+parts_stand : (plan : Plan) (table : ℕ) (at : BlockPart) (last : Option ℕ) (steps : ℕ) (entries : List Entry) → Orderly plan (Inside table at last) steps entries → PartsStand plan table at last (own_of entries)
 parts_stand plan table at last steps [] orderly = cc orderly
 parts_stand plan table at last steps (Block other ∷ entries) orderly = none_stand plan table at last
 parts_stand plan table at last steps (End ∷ entries) orderly = none_stand plan table at last
@@ -200,7 +200,7 @@ block_stands plan total table number steps entries source orderly few =
       count = omega (arith, parts_count (own_of entries), length-take (prefix_len is_of_block entries) entries);
     }
 
-pub blocks_stand : (plan : Plan) (total : ℕ) (place : Place) (steps number : ℕ) (entries : List Entry) → Orderly plan place steps entries → number + length entries ≤ total → AllByRecursion (IsRawBlock plan total) (blocks_from number entries)
+pub blocks_stand : (plan : Plan) (total : ℕ) (place : BlockState) (steps number : ℕ) (entries : List Entry) → Orderly plan place steps entries → number + length entries ≤ total → AllByRecursion (IsRawBlock plan total) (blocks_from number entries)
 blocks_stand plan total place steps number [] orderly few = tt
 blocks_stand plan total place steps number (Block table ∷ entries) orderly few =
     (block_stands plan total table number steps entries orderly.0 orderly.1 (omega arith), blocks_stand plan total (place_after place (Block table)) steps (number + 1) entries orderly.1 (omega arith))
@@ -214,11 +214,11 @@ blocks_stand plan total place steps number (Modified row ∷ entries) orderly fe
 abbrev pub StandIn : Plan → ℕ → RawBatch → Type 0
 StandIn plan total batch = AllByRecursion (IsRawBlock plan total) batch.blocks
 
-on_stand : (plan : Plan) (total : ℕ) (place : Place) (steps number : ℕ) (entries : List Entry) (later : List RawBatch) → Orderly plan place steps entries → number + length entries ≤ total → AllByRecursion (StandIn plan total) later → AllByRecursion (StandIn plan total) (batches_on number entries later)
+on_stand : (plan : Plan) (total : ℕ) (place : BlockState) (steps number : ℕ) (entries : List Entry) (later : List RawBatch) → Orderly plan place steps entries → number + length entries ≤ total → AllByRecursion (StandIn plan total) later → AllByRecursion (StandIn plan total) (batches_on number entries later)
 on_stand plan total place steps number [] later orderly few stand = tt
 on_stand plan total place steps number (entry ∷ entries) later orderly few stand = (blocks_stand plan total place steps number (entry ∷ entries) orderly few, stand)
 
-after_stand : (plan : Plan) (total : ℕ) (place : Place) (steps number : ℕ) (entries : List Entry) → Orderly plan place steps entries → number + length entries ≤ total → AllByRecursion (StandIn plan total) (batches_after number entries)
+after_stand : (plan : Plan) (total : ℕ) (place : BlockState) (steps number : ℕ) (entries : List Entry) → Orderly plan place steps entries → number + length entries ≤ total → AllByRecursion (StandIn plan total) (batches_after number entries)
 after_stand plan total place steps number [] orderly few = tt
 after_stand plan total place steps number (End ∷ entries) orderly few =
     on_stand plan total Outside (steps + 1) (number + 1) entries (batches_after (number + 1) entries) orderly.1 (omega arith) (after_stand plan total Outside (steps + 1) (number + 1) entries orderly.1 (omega arith))
@@ -233,12 +233,12 @@ batches_stand plan entries orderly =
     on_stand plan (1 + length entries) Outside 0 1 entries (batches_after 1 entries) orderly (omega arith) (after_stand plan (1 + length entries) Outside 0 1 entries orderly (omega arith))
 
 -- a feed does not end behind a record of a part
-never_last : (place : Place) (part : Part) (key last : ℕ) (Fits : ℕ → Type 0) → StandsAt (opened place part) key Fits → is_outside (passed place part last) ≡ true → ⊥
+never_last : (place : BlockState) (part : BlockPart) (key last : ℕ) (Fits : ℕ → Type 0) → StandsAt (opened place part) key Fits → is_outside (passed place part last) ≡ true → ⊥
 never_last Outside part key last Fits stands outside = stands
 never_last (Inside table at before) part key last Fits stands outside = cc outside
 
 -- a step for each end of one, of at most 100,000
-after_few : (plan : Plan) (place : Place) (steps number : ℕ) (entry : Entry) (entries : List Entry) → Orderly plan place steps (entry ∷ entries) → steps + (1 + length (batches_after number (entry ∷ entries))) ≤ 100000
+after_few : (plan : Plan) (place : BlockState) (steps number : ℕ) (entry : Entry) (entries : List Entry) → Orderly plan place steps (entry ∷ entries) → steps + (1 + length (batches_after number (entry ∷ entries))) ≤ 100000
 after_few plan place steps number End [] orderly = omega (arith, orderly.0)
 after_few plan place steps number End (next ∷ entries) orderly = omega (arith, after_few plan Outside (steps + 1) (number + 1) next entries orderly.1)
 after_few plan place steps number (Block table) [] orderly = cc (orderly.1)

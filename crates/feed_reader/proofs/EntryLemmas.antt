@@ -2,8 +2,8 @@
 use Rattle.std.proofs.Common.{◌≡◌, ℕ, Bool, true, false, cond, ltb, eqb, List, [], ◌++◌, length, Option, Some, None, Result, Ok, Err, ℤ, refl, sym, ap, ◌∙◌, subst}
 use Rattle.std.{specs.Prelude.{flat_map, IfOk}, specs.List.{AllByRecursion, zip}, proofs.lemmas.Bool.cond_both, proofs.lemmas.List.length-map, proofs.lemmas.Option.same_Some}
 use Rattle.tick_model.{specs.declared.plan.ColumnSpec.ColumnSpec, specs.declared.plan.Kind.Kind, specs.declared.plan.Plan.Plan, specs.declared.update.KeyRange.KeyRange, specs.declared.update.ShiftRange.ShiftRange, specs.Plans.columns_at}
-use Rattle.feed_reader.{specs.declared.cells.ReadCells.ReadCells, specs.declared.entries.Entry.Entry as Read, specs.declared.fault.TextKind.TextKind, specs.declared.fault.TextKind.TheVariants.{FieldCount, OutOfOrder, TooLong}, specs.declared.place.Part.Part, specs.declared.place.Place.Place, specs.declared.place.Place.TheVariants.{Outside, Inside}, specs.declared.raw.RawCell.RawCell, specs.declared.raw.RawRow.RawRow, specs.Cells.{key_of, delta_of, kinds_in}, specs.Entries.{known_block, block_entry, source_named, end_entry, removed_past, removed_entry, row_with, shift_by, shift_past, shift_entry, key_range}, specs.Places.{opened, part_rank}, specs.Raw.{cell_texts, raw_cells, Grows, IsNumber}, specs.ReadCells.{AreRead, Reads}, specs.Records.field_of, specs.Said.{Entry, Block, Removed, Shift, Added, Modified, End, raw_row_at, told_entry, kinds_within, IsReadEntry, IsReadRow}}
-use Rattle.feed_reader.specs.declared.entries.Entry.TheVariants as reads
+use Rattle.feed_reader.{specs.declared.cells.ReadCells.ReadCells, specs.declared.entries.FeedEntry.FeedEntry as Read, specs.declared.fault.TextKind.TextKind, specs.declared.fault.TextKind.TheVariants.{FieldCount, OutOfOrder, TooLong}, specs.declared.place.BlockPart.BlockPart, specs.declared.place.BlockState.BlockState, specs.declared.place.BlockState.TheVariants.{Outside, Inside}, specs.declared.raw.RawCell.RawCell, specs.declared.raw.RawRow.RawRow, specs.Cells.{key_of, delta_of, kinds_in}, specs.Entries.{known_block, block_entry, source_named, end_entry, removed_past, removed_entry, row_with, shift_by, shift_past, shift_entry, key_range}, specs.Places.{opened, part_rank}, specs.Raw.{cell_texts, raw_cells, Grows, IsNumber}, specs.ReadCells.{AreRead, Reads}, specs.Records.field_of, specs.Said.{Entry, Block, Removed, Shift, Added, Modified, End, raw_row_at, told_entry, kinds_within, IsReadEntry, IsReadRow}}
+use Rattle.feed_reader.specs.declared.entries.FeedEntry.TheVariants as reads
 
 -- a record without a row
 abbrev pub TellsNoRow : Result Entry TextKind → Type 0

@@ -2,7 +2,7 @@
 use Rattle.std.proofs.Common.{◌≡◌, ℕ, ◌+◌, List, [], ◌∷◌, ◌++◌, Bool, true, false, Option, Some, None, Ok, Err, refl, sym, ap, ◌∙◌, subst, length, ltb, append_assoc, length-append, take_while, ◌≤◌, arith}
 use Rattle.std.{specs.Prelude.option_map, specs.List.filter_map, specs.Option.option_to_list, proofs.lemmas.Bool.{cond-true, cond-false, le-ltb}, proofs.lemmas.List.append-nil, proofs.lemmas.List.Sums.take_while-cons}
 use Rattle.tick_model.specs.declared.plan.Plan.{Plan}
-use Rattle.feed_reader.{specs.Said.{Entry, Block, Removed, Shift, Added, Modified, End}, specs.declared.fault.TextKind.TextKind, specs.declared.fault.TextKind.TheVariants.{NotUtf8, TooLong, Unfinished}, specs.declared.place.Place.Place, specs.declared.place.Place.TheVariants.{Outside, Inside}, specs.declared.raw.RawBatch.RawBatch, specs.declared.raw.RawBlock.RawBlock, specs.declared.raw.RawFeed.RawFeed, specs.Answers.{Reading, onto, read_on}, specs.Entries.{entry_of, tag_of, tagged_entry}, specs.Feeds.{entries_in, steps_after, is_of_block, removed_range, shift_range, added_row, modified_row, block_with, blocks_from, batches_after, batches_of, feed_with, feed_in, feed_of}, specs.Gathered.{Gathered, nothing, ended_blocks, with_entry, gathered}, specs.Places.{place_after, is_outside}, specs.Records.{are_texts, field_of, records_of}, proofs.Orderly.{EntryFits, Orderly, orderly}}
+use Rattle.feed_reader.{specs.Said.{Entry, Block, Removed, Shift, Added, Modified, End}, specs.declared.fault.TextKind.TextKind, specs.declared.fault.TextKind.TheVariants.{NotUtf8, TooLong, Unfinished}, specs.declared.place.BlockState.BlockState, specs.declared.place.BlockState.TheVariants.{Outside, Inside}, specs.declared.raw.RawBatch.RawBatch, specs.declared.raw.RawBlock.RawBlock, specs.declared.raw.RawFeed.RawFeed, specs.Answers.{Reading, onto, read_on}, specs.Entries.{entry_of, tag_of, tagged_entry}, specs.Feeds.{entries_in, steps_after, is_of_block, removed_range, shift_range, added_row, modified_row, block_with, blocks_from, batches_after, batches_of, feed_with, feed_in, feed_of}, specs.Gathered.{Gathered, nothing, ended_blocks, with_entry, gathered}, specs.Places.{place_after, is_outside}, specs.Records.{are_texts, field_of, records_of}, proofs.Orderly.{EntryFits, Orderly, orderly}}
 
 -- all that is gathered from records, the first of which has this number
 abbrev pub gathered_all : Gathered → ℕ → List Entry → Gathered
@@ -118,7 +118,7 @@ batches_same [] ends = refl
 batches_same (entry ∷ entries) ends = sym (gathers nothing 1 entry entries ends)
 
 -- after a record the reading is outside where the record ends a step
-ends_after : (plan : Plan) (place : Place) (steps : ℕ) (entry : Entry) → EntryFits plan place steps entry → is_outside (place_after place entry) ≡ is_end entry
+ends_after : (plan : Plan) (place : BlockState) (steps : ℕ) (entry : Entry) → EntryFits plan place steps entry → is_outside (place_after place entry) ≡ is_end entry
 unfolding is_end
 ends_after plan Outside steps (Block table) fits = refl
 ends_after plan Outside steps (Removed range) fits = absurd fits
@@ -133,7 +133,7 @@ ends_after plan (Inside table at last) steps (Added row) fits = refl
 ends_after plan (Inside table at last) steps (Modified row) fits = refl
 ends_after plan (Inside table at last) steps End fits = refl
 
-ends_well : (plan : Plan) (place : Place) (steps : ℕ) (entries : List Entry) → Orderly plan place steps entries → EndsWell (is_outside place) entries
+ends_well : (plan : Plan) (place : BlockState) (steps : ℕ) (entries : List Entry) → Orderly plan place steps entries → EndsWell (is_outside place) entries
 unfolding EndsWell
 ends_well plan place steps [] fits = fits
 ends_well plan place steps (entry ∷ entries) fits =
@@ -146,7 +146,7 @@ started (Ok entries) ends = ap (λ batches. let feed : RawFeed = record { batche
 started (Err refused) ends = refl
 
 -- what the feed is, where so much is gathered and these records are left
-abbrev pub left_to_read : Plan → Place → Gathered → ℕ → List (List (List ℕ)) → Reading RawFeed
+abbrev pub left_to_read : Plan → BlockState → Gathered → ℕ → List (List (List ℕ)) → Reading RawFeed
 left_to_read plan place feed number left = onwards feed (number + 1) (entries_in plan place (length feed.batches) number left)
 
 pub feed_start : (plan : Plan) (records : List (List (List ℕ))) → feed_in plan records ≡ left_to_read plan Outside nothing 0 records
@@ -165,18 +165,18 @@ steps_same feed number (Added row) = refl
 steps_same feed number (Modified row) = refl
 steps_same feed number End = sym (length-append feed.batches ((record { blocks = ended_blocks feed }) ∷ []))
 
-pub one_more : (plan : Plan) (place : Place) (feed : Gathered) (number : ℕ) (fields : List (List ℕ)) (others : List (List (List ℕ))) (entry : Entry) → entry_of plan place (length feed.batches) fields ≡ Ok entry → left_to_read plan place feed number (fields ∷ others) ≡ left_to_read plan (place_after place entry) (gathered feed (number + 1) entry) (number + 1) others
+pub one_more : (plan : Plan) (place : BlockState) (feed : Gathered) (number : ℕ) (fields : List (List ℕ)) (others : List (List (List ℕ))) (entry : Entry) → entry_of plan place (length feed.batches) fields ≡ Ok entry → left_to_read plan place feed number (fields ∷ others) ≡ left_to_read plan (place_after place entry) (gathered feed (number + 1) entry) (number + 1) others
 one_more plan place feed number fields others entry e =
     ap (λ told. onwards feed (number + 1) (read_on (number + 1) told (λ next. entries_in plan (place_after place next) (steps_after (length feed.batches) next) (number + 1) others))) e
     ∙ onto_onwards feed (number + 1) entry (entries_in plan (place_after place entry) (steps_after (length feed.batches) entry) (number + 1) others)
     ∙ ap (λ steps. onwards (gathered feed (number + 1) entry) (number + 1 + 1) (entries_in plan (place_after place entry) steps (number + 1) others)) (steps_same feed (number + 1) entry)
 
-pub refused : (plan : Plan) (place : Place) (feed : Gathered) (number : ℕ) (fields : List (List ℕ)) (others : List (List (List ℕ))) (kind : TextKind) → entry_of plan place (length feed.batches) fields ≡ Err kind → left_to_read plan place feed number (fields ∷ others) ≡ Err (number + 1, kind)
+pub refused : (plan : Plan) (place : BlockState) (feed : Gathered) (number : ℕ) (fields : List (List ℕ)) (others : List (List (List ℕ))) (kind : TextKind) → entry_of plan place (length feed.batches) fields ≡ Err kind → left_to_read plan place feed number (fields ∷ others) ≡ Err (number + 1, kind)
 refused plan place feed number fields others kind e =
     ap (λ told. onwards feed (number + 1) (read_on (number + 1) told (λ next. entries_in plan (place_after place next) (steps_after (length feed.batches) next) (number + 1) others))) e
 
 -- a step is ended only where there may be one more
-pub few_steps : (plan : Plan) (place : Place) (feed : Gathered) (number : ℕ) (entry : Entry) → EntryFits plan place (length feed.batches) entry → length feed.batches ≤ 100000 → length (gathered feed number entry).batches ≤ 100000
+pub few_steps : (plan : Plan) (place : BlockState) (feed : Gathered) (number : ℕ) (entry : Entry) → EntryFits plan place (length feed.batches) entry → length feed.batches ≤ 100000 → length (gathered feed number entry).batches ≤ 100000
 few_steps plan place feed number (Block table) fits few = few
 few_steps plan place feed number (Removed range) fits few = few
 few_steps plan place feed number (Shift range) fits few = few
@@ -185,15 +185,15 @@ few_steps plan place feed number (Modified row) fits few = few
 few_steps plan place feed number End fits few = omega (arith, length-append feed.batches ((record { blocks = ended_blocks feed }) ∷ []))
 
 -- where the reading ends
-pub not_text : (plan : Plan) (place : Place) (feed : Gathered) (number : ℕ) (fields : List (List ℕ)) (others : List (List (List ℕ))) → are_texts fields ≡ false → left_to_read plan place feed number (fields ∷ others) ≡ Err (number + 1, NotUtf8)
+pub not_text : (plan : Plan) (place : BlockState) (feed : Gathered) (number : ℕ) (fields : List (List ℕ)) (others : List (List (List ℕ))) → are_texts fields ≡ false → left_to_read plan place feed number (fields ∷ others) ≡ Err (number + 1, NotUtf8)
 not_text plan place feed number fields others other =
     refused plan place feed number fields others NotUtf8 (cond-false (are_texts fields) (tagged_entry plan place (length feed.batches) (tag_of (field_of fields 0)) fields) (Err NotUtf8) other)
 
-pub finished : (plan : Plan) (place : Place) (feed : Gathered) (number : ℕ) → is_outside place ≡ true → left_to_read plan place feed number [] ≡ Ok (record { batches = feed.batches })
+pub finished : (plan : Plan) (place : BlockState) (feed : Gathered) (number : ℕ) → is_outside place ≡ true → left_to_read plan place feed number [] ≡ Ok (record { batches = feed.batches })
 finished plan Outside feed number outside = refl
 finished plan (Inside table part last) feed number outside = cc outside
 
-pub unfinished : (plan : Plan) (place : Place) (feed : Gathered) (number : ℕ) → is_outside place ≡ false → left_to_read plan place feed number [] ≡ Err (number, Unfinished)
+pub unfinished : (plan : Plan) (place : BlockState) (feed : Gathered) (number : ℕ) → is_outside place ≡ false → left_to_read plan place feed number [] ≡ Err (number, Unfinished)
 unfinished plan Outside feed number inside = cc inside
 unfinished plan (Inside table part last) feed number inside = refl
 

@@ -3,8 +3,8 @@ use Rattle.std.proofs.Common.{◌≡◌, ℕ, ℤ, List, ◌++◌, Option, Some,
 use Rattle.std.{specs.Prelude.option_map, specs.List.AllByRecursion, specs.Option.{option_to_list, ForSome}}
 use Rattle.key_lists.proofs.Every.{every-append}
 use Rattle.tick_model.{specs.declared.feed.Block.Block, specs.declared.plan.Kind.Kind}
-use Rattle.feed_reader.{specs.declared.entries.Entry.Entry as Told, specs.declared.gathered.Gathered.Gathered as Read, specs.declared.raw.RawBlock.RawBlock, specs.Gathered.{Gathered, raw_steps, kinds_of_block, with_entry, gathered}, specs.Raw.{kinds_at, raw_block}, specs.Said.said}
-use Rattle.feed_reader.specs.declared.entries.Entry.TheVariants as told
+use Rattle.feed_reader.{specs.declared.entries.FeedEntry.FeedEntry as Told, specs.declared.gathered.FeedBuilder.FeedBuilder as Read, specs.declared.raw.RawBlock.RawBlock, specs.Gathered.{Gathered, raw_steps, kinds_of_block, with_entry, gathered}, specs.Raw.{kinds_at, raw_block}, specs.Said.said}
+use Rattle.feed_reader.specs.declared.entries.FeedEntry.TheVariants as told
 
 -- the block at hand is ended
 pub all_ended : {X : Type 0} (P : X → Type 0) (xs : List X) (last : Option X) → AllByRecursion P xs → ForSome last P → AllByRecursion P (xs ++ option_to_list last)

@@ -2,9 +2,9 @@
 use Rattle.std.proofs.Common.{◌≡◌, ℕ, zero, suc, ◌+◌, ◌^◌, ◌<◌, ◌≤◌, Bool, true, false, cond, eqb, ltb, leb, List, [], ◌∷◌, length, drop, Option, Some, None, Result, Ok, Err, ℤ, pos, negsuc, neg_ℤ, refl, sym, ap, subst, arith, length-drop}
 use Rattle.std.{specs.Prelude.{◌&&◌, not, FitsSigned, IfSome, IfOk, option_map, unsigned_abs}, specs.List.position_or_len, specs.Int.w64, specs.Ordering.int_eq, specs.Str.all_ascii_digits, specs.Str.Parse.digits_value, proofs.lemmas.Bool.{cond_both, and_parts, ltb-true, leb-true, eqb-true, eqb-false, false_from_ne_true}, proofs.lemmas.Bool.Decides.Decides-int_eq, proofs.lemmas.Int.{fits_signed_from_abs, ints}, proofs.lemmas.Result.IfOk-at_ok, proofs.Math.Numerals.one-add}
 use Rattle.tick_model.{specs.declared.plan.ColumnSpec.ColumnSpec, specs.declared.plan.Kind.Kind, specs.declared.plan.Kind.TheVariants.{Long as LongKind, Text as TextKind}, specs.declared.plan.Node.Node, specs.declared.plan.Plan.Plan, specs.declared.update.KeyRange.KeyRange, specs.declared.update.ShiftRange.ShiftRange, specs.Changes.is_none, specs.Evaluation.is_source, specs.Names.same_name, specs.LawfulRuns.is_source_number, specs.Plans.columns_at, specs.Printable.IsShiftRange}
-use Rattle.feed_reader.{specs.Said.{Entry, Block, Removed, Shift, Added, Modified, End}, specs.declared.fault.TextKind.TextKind as TextKinds, specs.declared.place.Part.Part, specs.declared.place.Place.Place, specs.declared.place.Place.TheVariants.{Outside, Inside}, specs.declared.place.Tag.Tag, specs.declared.raw.RawCell.RawCell, specs.declared.raw.RawCell.TheVariants.{Null, Long, Text}, specs.declared.raw.RawRow.RawRow, specs.Cells.{number_below, signed_below, long_of, key_of, delta_of, not_zero, some_not_zero, known_cell, cell_of, with_first, cells_of}, specs.Entries.{entry_of, tagged_entry, is_named, source_named, known_block, tag_of, part_entry, key_range, removed_past, shift_by, shift_past, row_with, row_past, row_entry, added, modified}, specs.Answers.{Reading, onto, read_on}, specs.Feeds.{entries_in, steps_after}, specs.Places.{Opened, opened, is_past, is_outside, place_after}, specs.Records.{are_texts, field_of}}
+use Rattle.feed_reader.{specs.Said.{Entry, Block, Removed, Shift, Added, Modified, End}, specs.declared.fault.TextKind.TextKind as TextKinds, specs.declared.place.BlockPart.BlockPart, specs.declared.place.BlockState.BlockState, specs.declared.place.BlockState.TheVariants.{Outside, Inside}, specs.declared.place.Tag.Tag, specs.declared.raw.RawCell.RawCell, specs.declared.raw.RawCell.TheVariants.{Null, Long, Text}, specs.declared.raw.RawRow.RawRow, specs.Cells.{number_below, signed_below, long_of, key_of, delta_of, not_zero, some_not_zero, known_cell, cell_of, with_first, cells_of}, specs.Entries.{entry_of, tagged_entry, is_named, source_named, known_block, tag_of, part_entry, key_range, removed_past, shift_by, shift_past, row_with, row_past, row_entry, added, modified}, specs.Answers.{Reading, onto, read_on}, specs.Feeds.{entries_in, steps_after}, specs.Places.{Opened, opened, is_past, is_outside, place_after}, specs.Records.{are_texts, field_of}}
 use Rattle.feed_reader.specs.declared.fault.TextKind.TheVariants as kinds
-use Rattle.feed_reader.specs.declared.place.Part.TheVariants as Parts
+use Rattle.feed_reader.specs.declared.place.BlockPart.TheVariants as Parts
 use Rattle.feed_reader.specs.declared.place.Tag.TheVariants as Tags
 
 -- a cell and the cells of a row, of a source's columns
@@ -39,7 +39,7 @@ abbrev pub StandsAt : Option Opened → ℕ → (ℕ → Type 0) → Type 0
 StandsAt None key Fits = ⊥
 StandsAt (Some (table, last)) key Fits = (is_past last key ≡ true) × Fits table
 
-abbrev pub EntryFits : Plan → Place → ℕ → Entry → Type 0
+abbrev pub EntryFits : Plan → BlockState → ℕ → Entry → Type 0
 EntryFits plan place steps (Block table) = is_source_number plan.nodes table ≡ true
 EntryFits plan place steps (Removed range) = StandsAt (opened place Parts.Removed) range.first (λ table. IsRange range)
 EntryFits plan place steps (Shift range) = StandsAt (opened place Parts.Shifts) range.begin (λ table. IsMove range)
@@ -112,7 +112,7 @@ source_at : (name : List ℕ) (nodes : List Node) → position_or_len (is_named 
 source_at name [] within = absurd (omega arith)
 source_at name (node ∷ nodes) within = source_next name node nodes (position_or_len (is_named name) nodes) (is_named name node) refl (source_at name nodes) within
 
-block_fits : (plan : Plan) (place : Place) (steps : ℕ) (name : List ℕ) → IfOk (known_block (source_named plan.nodes name)) (EntryFits plan place steps)
+block_fits : (plan : Plan) (place : BlockState) (steps : ℕ) (name : List ℕ) → IfOk (known_block (source_named plan.nodes name)) (EntryFits plan place steps)
 block_fits plan place steps name =
     let n = position_or_len (is_named name) plan.nodes in
     cond_both (ltb n (length plan.nodes)) (Some n) None (λ o. IfOk (known_block o) (EntryFits plan place steps)) (λ e. source_at name plan.nodes (ltb-true n (length plan.nodes) e)) (λ _. tt)
@@ -123,7 +123,7 @@ range_fits None last low = tt
 range_fits (Some first) None low = tt
 range_fits (Some first) (Some last) low = cond_both (leb first last) (Some (record { first = first; last = last })) None (λ o. IfSome o IsRange) (λ e. (leb-true first last e, low)) (λ _. tt)
 
-removed_fits : (plan : Plan) (steps : ℕ) (place : Place) (table : ℕ) (last : Option ℕ) (range : Option KeyRange) → opened place Parts.Removed ≡ Some (table, last) → IfSome range IsRange → IfOk (removed_past last range) (EntryFits plan place steps)
+removed_fits : (plan : Plan) (steps : ℕ) (place : BlockState) (table : ℕ) (last : Option ℕ) (range : Option KeyRange) → opened place Parts.Removed ≡ Some (table, last) → IfSome range IsRange → IfOk (removed_past last range) (EntryFits plan place steps)
 removed_fits plan steps place table last None is fits = tt
 removed_fits plan steps place table last (Some range) is fits =
     cond_both (is_past last range.first) (Ok (Removed range)) (Err kinds.OutOfOrder) (λ r. IfOk r (EntryFits plan place steps))
@@ -165,7 +165,7 @@ shift_by_fits None delta is some = tt
 shift_by_fits (Some range) None is some = tt
 shift_by_fits (Some range) (Some delta) is some = moved_fits range delta is some.0 some.1
 
-shift_fits : (plan : Plan) (steps : ℕ) (place : Place) (table : ℕ) (last : Option ℕ) (range : Option ShiftRange) → opened place Parts.Shifts ≡ Some (table, last) → IfSome range IsMove → IfOk (shift_past last range) (EntryFits plan place steps)
+shift_fits : (plan : Plan) (steps : ℕ) (place : BlockState) (table : ℕ) (last : Option ℕ) (range : Option ShiftRange) → opened place Parts.Shifts ≡ Some (table, last) → IfSome range IsMove → IfOk (shift_past last range) (EntryFits plan place steps)
 shift_fits plan steps place table last None is fits = tt
 shift_fits plan steps place table last (Some range) is fits =
     cond_both (is_past last range.begin) (Ok (Shift range)) (Err kinds.OutOfOrder) (λ r. IfOk r (EntryFits plan place steps))
@@ -190,15 +190,15 @@ row_fits columns last fields =
     past_fits columns last row (with_fits columns (key_of (field_of fields 1)) (cells_of columns (drop 2 fields)) (number_fits (2 ^ 40) (field_of fields 1)) (cells_fit columns (drop 2 fields) (omega (arith, length-drop 2 fields)))))
     (λ _. tt)
 
-added_fits : (plan : Plan) (steps : ℕ) (place : Place) (table : ℕ) (last : Option ℕ) (row : Result RawRow TextKinds) → opened place Parts.Added ≡ Some (table, last) → IfOk row (λ r. (is_past last r.key ≡ true) × IsRawRow (columns_at plan.nodes table) r) → IfOk (added row) (EntryFits plan place steps)
+added_fits : (plan : Plan) (steps : ℕ) (place : BlockState) (table : ℕ) (last : Option ℕ) (row : Result RawRow TextKinds) → opened place Parts.Added ≡ Some (table, last) → IfOk row (λ r. (is_past last r.key ≡ true) × IsRawRow (columns_at plan.nodes table) r) → IfOk (added row) (EntryFits plan place steps)
 added_fits plan steps place table last (Ok row) is fits = subst (λ at. StandsAt at row.key (λ t. IsRawRow (columns_at plan.nodes t) row)) (sym is) fits
 added_fits plan steps place table last (Err kind) is fits = tt
 
-modified_fits : (plan : Plan) (steps : ℕ) (place : Place) (table : ℕ) (last : Option ℕ) (row : Result RawRow TextKinds) → opened place Parts.Modified ≡ Some (table, last) → IfOk row (λ r. (is_past last r.key ≡ true) × IsRawRow (columns_at plan.nodes table) r) → IfOk (modified row) (EntryFits plan place steps)
+modified_fits : (plan : Plan) (steps : ℕ) (place : BlockState) (table : ℕ) (last : Option ℕ) (row : Result RawRow TextKinds) → opened place Parts.Modified ≡ Some (table, last) → IfOk row (λ r. (is_past last r.key ≡ true) × IsRawRow (columns_at plan.nodes table) r) → IfOk (modified row) (EntryFits plan place steps)
 modified_fits plan steps place table last (Ok row) is fits = subst (λ at. StandsAt at row.key (λ t. IsRawRow (columns_at plan.nodes t) row)) (sym is) fits
 modified_fits plan steps place table last (Err kind) is fits = tt
 
-part_fits : (plan : Plan) (place : Place) (steps : ℕ) (at : Option Opened) (part : Part) (fields : List (List ℕ)) → opened place part ≡ at → IfOk (part_entry plan at part fields) (EntryFits plan place steps)
+part_fits : (plan : Plan) (place : BlockState) (steps : ℕ) (at : Option Opened) (part : BlockPart) (fields : List (List ℕ)) → opened place part ≡ at → IfOk (part_entry plan at part fields) (EntryFits plan place steps)
 part_fits plan place steps None part fields is = tt
 part_fits plan place steps (Some (table, last)) Parts.Removed fields is =
     let range = key_range (key_of (field_of fields 1)) (key_of (field_of fields 2)) in
@@ -214,7 +214,7 @@ part_fits plan place steps (Some (table, last)) Parts.Shifts fields is =
 part_fits plan place steps (Some (table, last)) Parts.Added fields is = added_fits plan steps place table last (row_entry (columns_at plan.nodes table) last fields) is (row_fits (columns_at plan.nodes table) last fields)
 part_fits plan place steps (Some (table, last)) Parts.Modified fields is = modified_fits plan steps place table last (row_entry (columns_at plan.nodes table) last fields) is (row_fits (columns_at plan.nodes table) last fields)
 
-tagged_fits : (plan : Plan) (place : Place) (steps : ℕ) (tag : Option Tag) (fields : List (List ℕ)) → IfOk (tagged_entry plan place steps tag fields) (EntryFits plan place steps)
+tagged_fits : (plan : Plan) (place : BlockState) (steps : ℕ) (tag : Option Tag) (fields : List (List ℕ)) → IfOk (tagged_entry plan place steps tag fields) (EntryFits plan place steps)
 tagged_fits plan place steps None fields = tt
 tagged_fits plan place steps (Some Tags.Block) fields =
     cond_both (eqb (length fields) 2) (known_block (source_named plan.nodes (field_of fields 1))) (Err kinds.FieldCount) (λ r. IfOk r (EntryFits plan place steps)) (λ _. block_fits plan place steps (field_of fields 1)) (λ _. tt)
@@ -223,12 +223,12 @@ tagged_fits plan place steps (Some Tags.End) fields =
     cond_both (eqb (length fields) 1) (cond (ltb steps 100000) (Ok End) (Err kinds.TooLong)) (Err kinds.FieldCount) (λ r. IfOk r (EntryFits plan place steps))
     (λ _. cond_both (ltb steps 100000) (Ok End) (Err kinds.TooLong) (λ r. IfOk r (EntryFits plan place steps)) (λ e. ltb-true steps 100000 e) (λ _. tt)) (λ _. tt)
 
-pub entry_fits : (plan : Plan) (place : Place) (steps : ℕ) (fields : List (List ℕ)) → IfOk (entry_of plan place steps fields) (EntryFits plan place steps)
+pub entry_fits : (plan : Plan) (place : BlockState) (steps : ℕ) (fields : List (List ℕ)) → IfOk (entry_of plan place steps fields) (EntryFits plan place steps)
 entry_fits plan place steps fields =
     cond_both (are_texts fields) (tagged_entry plan place steps (tag_of (field_of fields 0)) fields) (Err kinds.NotUtf8) (λ r. IfOk r (EntryFits plan place steps))
     (λ _. tagged_fits plan place steps (tag_of (field_of fields 0)) fields) (λ _. tt)
 
-pub fits_at : (plan : Plan) (place : Place) (steps : ℕ) (fields : List (List ℕ)) (entry : Entry) → entry_of plan place steps fields ≡ Ok entry → EntryFits plan place steps entry
+pub fits_at : (plan : Plan) (place : BlockState) (steps : ℕ) (fields : List (List ℕ)) (entry : Entry) → entry_of plan place steps fields ≡ Ok entry → EntryFits plan place steps entry
 fits_at plan place steps fields entry told = IfOk-at_ok (EntryFits plan place steps) told (entry_fits plan place steps fields)
 
 -- what is read first, and then
@@ -241,16 +241,16 @@ read_ok number (Ok entry) more entries e = let found = onto_ok entry (more entry
 read_ok number (Err kind) more entries e = cc e
 
 -- records that are all read stand each where it may, and the last one ends a step
-abbrev pub Orderly : Plan → Place → ℕ → List Entry → Type 0
+abbrev pub Orderly : Plan → BlockState → ℕ → List Entry → Type 0
 Orderly plan place steps [] = is_outside place ≡ true
 Orderly plan place steps (entry ∷ entries) = EntryFits plan place steps entry × Orderly plan (place_after place entry) (steps_after steps entry) entries
 
-orderly_end : (plan : Plan) (place : Place) (steps read : ℕ) (entries : List Entry) → cond {A = Reading (List Entry)} (is_outside place) (Ok []) (Err (read, kinds.Unfinished)) ≡ Ok entries → Orderly plan place steps entries × (length entries ≡ 0)
+orderly_end : (plan : Plan) (place : BlockState) (steps read : ℕ) (entries : List Entry) → cond {A = Reading (List Entry)} (is_outside place) (Ok []) (Err (read, kinds.Unfinished)) ≡ Ok entries → Orderly plan place steps entries × (length entries ≡ 0)
 orderly_end plan Outside steps read [] e = (refl, refl)
 orderly_end plan Outside steps read (entry ∷ entries) e = cc e
 orderly_end plan (Inside table at last) steps read entries e = cc e
 
-pub orderly : (plan : Plan) (place : Place) (steps read : ℕ) (records : List (List (List ℕ))) (entries : List Entry) → entries_in plan place steps read records ≡ Ok entries → Orderly plan place steps entries × (length entries ≡ length records)
+pub orderly : (plan : Plan) (place : BlockState) (steps read : ℕ) (records : List (List (List ℕ))) (entries : List Entry) → entries_in plan place steps read records ≡ Ok entries → Orderly plan place steps entries × (length entries ≡ length records)
 orderly plan place steps read [] entries e = orderly_end plan place steps read entries e
 orderly plan place steps read (fields ∷ others) entries e =
     let found = read_ok (read + 1) (entry_of plan place steps fields) (λ entry. entries_in plan (place_after place entry) (steps_after steps entry) (read + 1) others) entries e in

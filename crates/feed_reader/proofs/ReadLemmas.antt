@@ -2,7 +2,7 @@
 use Rattle.std.proofs.Common.{◌≡◌, ℕ, ◌+◌, ◌^◌, ◌<◌, ◌≤◌, Bool, true, false, cond, eqb, ltb, List, [], ◌∷◌, length, Option, Some, None, Ok, Err, refl, sym, ap, ◌∙◌, subst, arith}
 use Rattle.std.{proofs.lemmas.List.length-map, specs.Prelude.{IfOk, IfSome}, specs.List.{AllByRecursion, range_with_len}, proofs.lemmas.Bool.{cond_both, ltb-true, ltb-false, eqb-true}, proofs.lemmas.Result.IfOk-at_ok}
 use Rattle.tick_model.{specs.declared.plan.ColumnSpec.ColumnSpec, specs.declared.plan.Plan.Plan, specs.LawfulRuns.IsOpening, specs.Tables.keys}
-use Rattle.feed_reader.{specs.declared.fault.TextKind.TextKind, specs.declared.place.Place.TheVariants.Outside, specs.declared.raw.RawBatch.RawBatch, specs.declared.raw.RawCell.RawCell, specs.declared.raw.RawFeed.RawFeed, specs.declared.raw.RawRow.RawRow, specs.declared.raw.RawTable.RawTable, specs.Answers.Reading, specs.Cells.cells_of, specs.Coding.{table_texts, coded_table, coded_row, coded_rows}, specs.Feeds.{entries_in, batches_of, feed_with, feed_in, feed_of}, specs.Records.{records_of, are_texts}, specs.Runs.IsAmong, specs.Tables.{header_fault, row_under, whole_row, row_of, rows_from, after_header, table_in, table_of}, specs.Said.Entry, proofs.RecordLemmas.few_records, proofs.Orderly.{read_ok, CellsFit, cells_fit, IsRawRow, Orderly, orderly}, proofs.CodedLemmas.rows_of_source}
+use Rattle.feed_reader.{specs.declared.fault.TextKind.TextKind, specs.declared.place.BlockState.TheVariants.Outside, specs.declared.raw.RawBatch.RawBatch, specs.declared.raw.RawCell.RawCell, specs.declared.raw.RawFeed.RawFeed, specs.declared.raw.RawRow.RawRow, specs.declared.raw.RawTable.RawTable, specs.Answers.Reading, specs.Cells.cells_of, specs.Coding.{table_texts, coded_table, coded_row, coded_rows}, specs.Feeds.{entries_in, batches_of, feed_with, feed_in, feed_of}, specs.Records.{records_of, are_texts}, specs.Runs.IsAmong, specs.Tables.{header_fault, row_under, whole_row, row_of, rows_from, after_header, table_in, table_of}, specs.Said.Entry, proofs.RecordLemmas.few_records, proofs.Orderly.{read_ok, CellsFit, cells_fit, IsRawRow, Orderly, orderly}, proofs.CodedLemmas.rows_of_source}
 use Rattle.feed_reader.specs.declared.fault.TextKind.TheVariants as kinds
 
 -- bytes that are not too long

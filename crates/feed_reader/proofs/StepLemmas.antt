@@ -3,15 +3,15 @@ use Rattle.std.proofs.Common.{◌≡◌, ℕ, zero, suc, ◌+◌, ◌≤◌, Boo
 use Rattle.std.{specs.Prelude.{◌||◌, flat_map, option_map}, specs.List.{AllByRecursion, list_any}, specs.Option.{option_to_list, ForSome}, specs.Str.bytes_eq, proofs.lemmas.Bool.or_right, proofs.lemmas.List.{append-nil, length-map}, proofs.lemmas.List.Concat.flat_map-append, proofs.lemmas.List.Folds.list_any-append, proofs.lemmas.Option.same_Some}
 use Rattle.key_lists.{proofs.Booleans.or_assoc, proofs.Every.{every_weaker, every-append, map_same}}
 use Rattle.tick_model.{specs.declared.feed.Batch.Batch as BatchRead, specs.declared.feed.Block.Block as BlockRead, specs.declared.plan.Kind.Kind, specs.declared.plan.Node.Node, specs.declared.plan.Plan.Plan, specs.Plans.columns_at}
-use Rattle.feed_reader.{specs.declared.cells.ReadCells.ReadCells, specs.declared.entries.Entry.Entry as Told, specs.declared.fault.TextKind.TextKind, specs.declared.feeds.ReadSteps.ReadSteps, specs.declared.gathered.Gathered.Gathered as Read, specs.declared.place.Part.Part, specs.declared.place.Place.Place, specs.declared.place.Place.TheVariants.{Outside, Inside}, specs.declared.raw.RawBatch.RawBatch, specs.declared.raw.RawBlock.RawBlock, specs.declared.raw.RawRow.RawRow, specs.Cells.kinds_in, specs.Entries.entry_of, specs.Gathered.{Gathered, raw_steps, ended_blocks, with_entry, begun, gathered, kinds_of_block, AreNumberedSteps, FitsRow, IsNumberedEntry}, specs.Places.{opened, passed, place_after, is_outside}, specs.ReadSteps.{kinds_by_node, steps_of, steps_texts, IsAt, AreReadSteps, IsStep}, specs.Raw.{row_texts, rows_texts, block_texts, batch_texts, raw_row, raw_block, raw_batch, kinds_at, AreTold, Grows, IsNumberedRow, IsNumberedBlock, AreNumberedBatches}, specs.Said.{Entry, Block, Removed, Shift, Added, Modified, End, said, kinds_within, IsReadEntry}, proofs.FeedLemmas.{left_to_read, one_more, refused, few_steps}, proofs.Orderly.{fits_at, StandsAt, EntryFits, IsRange, IsMove, IsRawRow}, proofs.RawLemmas.{rows_kept, rows_more, grows_none, grown_longer}}
-use Rattle.feed_reader.specs.declared.entries.Entry.TheVariants as told
-use Rattle.feed_reader.specs.declared.place.Part.TheVariants as Parts
+use Rattle.feed_reader.{specs.declared.cells.ReadCells.ReadCells, specs.declared.entries.FeedEntry.FeedEntry as Told, specs.declared.fault.TextKind.TextKind, specs.declared.feeds.ReadSteps.ReadSteps, specs.declared.gathered.FeedBuilder.FeedBuilder as Read, specs.declared.place.BlockPart.BlockPart, specs.declared.place.BlockState.BlockState, specs.declared.place.BlockState.TheVariants.{Outside, Inside}, specs.declared.raw.RawBatch.RawBatch, specs.declared.raw.RawBlock.RawBlock, specs.declared.raw.RawRow.RawRow, specs.Cells.kinds_in, specs.Entries.entry_of, specs.Gathered.{Gathered, raw_steps, ended_blocks, with_entry, begun, gathered, kinds_of_block, AreNumberedSteps, FitsRow, IsNumberedEntry}, specs.Places.{opened, passed, place_after, is_outside}, specs.ReadSteps.{kinds_by_node, steps_of, steps_texts, IsAt, AreReadSteps, IsStep}, specs.Raw.{row_texts, rows_texts, block_texts, batch_texts, raw_row, raw_block, raw_batch, kinds_at, AreTold, Grows, IsNumberedRow, IsNumberedBlock, AreNumberedBatches}, specs.Said.{Entry, Block, Removed, Shift, Added, Modified, End, said, kinds_within, IsReadEntry}, proofs.FeedLemmas.{left_to_read, one_more, refused, few_steps}, proofs.Orderly.{fits_at, StandsAt, EntryFits, IsRange, IsMove, IsRawRow}, proofs.RawLemmas.{rows_kept, rows_more, grows_none, grown_longer}}
+use Rattle.feed_reader.specs.declared.entries.FeedEntry.TheVariants as told
+use Rattle.feed_reader.specs.declared.place.BlockPart.TheVariants as Parts
 
-part_at : (place : Place) (so_far : Gathered) (entry : Entry) (part : Part) (last : ℕ) → ((block : RawBlock) → (with_entry entry block).table ≡ block.table) → IsAt place so_far → IsAt (passed place part last) (record so_far { block = option_map (with_entry entry) so_far.block })
+part_at : (place : BlockState) (so_far : Gathered) (entry : Entry) (part : BlockPart) (last : ℕ) → ((block : RawBlock) → (with_entry entry block).table ≡ block.table) → IsAt place so_far → IsAt (passed place part last) (record so_far { block = option_map (with_entry entry) so_far.block })
 part_at Outside so_far entry part last same at = (at.0, ap (option_map (with_entry entry)) at.1)
 part_at (Inside table reached before) so_far entry part last same at = (with_entry entry at.0, ap (option_map (with_entry entry)) at.1, same at.0 ∙ at.2)
 
-pub at_after : (place : Place) (so_far : Gathered) (number : ℕ) (entry : Entry) → IsAt place so_far → IsAt (place_after place entry) (gathered so_far number entry)
+pub at_after : (place : BlockState) (so_far : Gathered) (number : ℕ) (entry : Entry) → IsAt place so_far → IsAt (place_after place entry) (gathered so_far number entry)
 at_after place so_far number (Block table) at = (begun table number, refl, refl)
 at_after place so_far number (Removed range) at = part_at place so_far (Removed range) Parts.Removed range.last (λ block. refl) at
 at_after place so_far number (Shift range) at = part_at place so_far (Shift range) Parts.Shifts range.end (λ block. refl) at
@@ -85,7 +85,7 @@ module _ (p : List ℕ → Bool) where
       ∙ ap (λ b. b || has (entry_texts entry)) (sym (last_has front so_far.blocks block) ∙ ap made (sym here))
 
   -- outside a block there is no record of a part
-  place_has : (place : Place) (so_far : Gathered) (entry : Entry) (part : Part) (key : ℕ) (Fits : ℕ → Type 0) → StandsAt (opened place part) key Fits → IsAt place so_far → has (steps_texts (record so_far { block = option_map (with_entry entry) so_far.block })) ≡ (has (steps_texts so_far) || has (entry_texts entry))
+  place_has : (place : BlockState) (so_far : Gathered) (entry : Entry) (part : BlockPart) (key : ℕ) (Fits : ℕ → Type 0) → StandsAt (opened place part) key Fits → IsAt place so_far → has (steps_texts (record so_far { block = option_map (with_entry entry) so_far.block })) ≡ (has (steps_texts so_far) || has (entry_texts entry))
   place_has Outside so_far entry part key Fits stands at = absurd stands
   place_has (Inside table reached last) so_far entry part key Fits stands at = part_has so_far entry at.0 at.1
 
@@ -102,7 +102,7 @@ module _ (p : List ℕ → Bool) where
       ∙ ap (λ last. before ++ last) (append-nil own))
       ∙ or_false (has (before ++ own))
 
-  gathered_has : (plan : Plan) (place : Place) (steps : ℕ) (so_far : Gathered) (number : ℕ) (entry : Entry) → EntryFits plan place steps entry → IsAt place so_far → has (steps_texts (gathered so_far number entry)) ≡ (has (steps_texts so_far) || has (entry_texts entry))
+  gathered_has : (plan : Plan) (place : BlockState) (steps : ℕ) (so_far : Gathered) (number : ℕ) (entry : Entry) → EntryFits plan place steps entry → IsAt place so_far → has (steps_texts (gathered so_far number entry)) ≡ (has (steps_texts so_far) || has (entry_texts entry))
   gathered_has plan place steps so_far number (Block table) fits at = block_has so_far table number
   gathered_has plan place steps so_far number (Removed range) fits at = place_has place so_far (Removed range) Parts.Removed range.first (λ _. IsRange range) fits at
   gathered_has plan place steps so_far number (Shift range) fits at = place_has place so_far (Shift range) Parts.Shifts range.begin (λ _. IsMove range) fits at
@@ -111,7 +111,7 @@ module _ (p : List ℕ → Bool) where
   gathered_has plan place steps so_far number End fits at = end_has so_far number
 
 -- one more record
-told_more : (plan : Plan) (place : Place) (steps : ℕ) (so_far : Gathered) (number : ℕ) (entry : Entry) (texts more : List (List ℕ)) → EntryFits plan place steps entry → IsAt place so_far → AreTold texts (steps_texts so_far) → AreTold more (entry_texts entry) → AreTold (texts ++ more) (steps_texts (gathered so_far number entry))
+told_more : (plan : Plan) (place : BlockState) (steps : ℕ) (so_far : Gathered) (number : ℕ) (entry : Entry) (texts more : List (List ℕ)) → EntryFits plan place steps entry → IsAt place so_far → AreTold texts (steps_texts so_far) → AreTold more (entry_texts entry) → AreTold (texts ++ more) (steps_texts (gathered so_far number entry))
 told_more plan place steps so_far number entry texts more fits at before own =
     let Among : List (List ℕ) → List ℕ → Type 0 = λ those text. list_any (bytes_eq text) those ≡ true in
     let all = gathered so_far number entry in
@@ -176,7 +176,7 @@ kinds_of_node [] table = refl
 kinds_of_node (node ∷ nodes) zero = refl
 kinds_of_node (node ∷ nodes) (suc table) = kinds_of_node nodes table
 
-kinds_at_hand : (plan : Plan) (place : Place) (texts : List (List ℕ)) (batches : List BatchRead) (blocks : List BlockRead) (last : Option BlockRead)
+kinds_at_hand : (plan : Plan) (place : BlockState) (texts : List (List ℕ)) (batches : List BatchRead) (blocks : List BlockRead) (last : Option BlockRead)
     → IsAt place (raw_steps texts (kinds_by_node plan) (record { batches = batches; blocks = blocks; block = last })) → kinds_of_block (kinds_by_node plan) last ≡ kinds_within plan place
 kinds_at_hand plan Outside texts batches blocks None at = refl
 kinds_at_hand plan Outside texts batches blocks (Some block) at = let none = at.1 in cc
@@ -257,7 +257,7 @@ module _ (plan : Plan) (before : ReadSteps) (read : ReadCells) (entry : Told) (s
         ∙ ap (λ own. gathered (raw_steps read.texts kinds before.feed) number (said read.texts own read.cells.items entry)) own_kinds
         ∙ ap (λ so_far. gathered so_far number told_is) (ap (λ texts. raw_steps texts kinds before.feed) grows.1 ∙ steps_kept kinds known grows.0 before.feed so_far.numbered)
 
-    pub more_steps : (place : Place) → place ≡ place_after before.place told_is → AreNumberedSteps kinds (length read.texts) new → (steps : ℕ) → EntryFits plan before.place steps told_is
+    pub more_steps : (place : BlockState) → place ≡ place_after before.place told_is → AreNumberedSteps kinds (length read.texts) new → (steps : ℕ) → EntryFits plan before.place steps told_is
         → AreReadSteps plan (record { place = place; read = read; feed = new })
     more_steps place after numbered steps fits = record {
       numbered = numbered;
@@ -269,7 +269,7 @@ module _ (plan : Plan) (before : ReadSteps) (read : ReadCells) (entry : Told) (s
     }
 
 -- the end of a feed, where no step is begun
-ended_texts : (place : Place) (so_far : Gathered) → is_outside place ≡ true → IsAt place so_far → steps_texts so_far ≡ flat_map batch_texts so_far.batches
+ended_texts : (place : BlockState) (so_far : Gathered) → is_outside place ≡ true → IsAt place so_far → steps_texts so_far ≡ flat_map batch_texts so_far.batches
 ended_texts Outside so_far outside at =
     let front = flat_map batch_texts so_far.batches in
     ap₂ (λ blocks last. front ++ flat_map block_texts (blocks ++ option_to_list last)) at.0 at.1 ∙ append-nil front

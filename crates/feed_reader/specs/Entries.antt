@@ -2,8 +2,8 @@
 --     entry_of plan place steps fields      what a record says, or the first kind that refuses it, after so many ended steps
 use Rattle.std.specs.Prelude.{ℕ, ◌+◌, ◌==◌, ◌&&◌, Bool, List, Option, Some, None, Result, Ok, Err, ℤ, drop, length, position, codes, nat_lt, nat_le, if◌then◌else◌}
 use Rattle.tick_model.{specs.declared.plan.ColumnSpec.ColumnSpec, specs.declared.plan.Node.Node, specs.declared.plan.Plan.Plan, specs.declared.update.KeyRange.KeyRange, specs.declared.update.ShiftRange.ShiftRange, specs.Evaluation.is_source, specs.Names.same_name, specs.Plans.columns_at}
-use Rattle.feed_reader.{specs.Said.{Entry, Block, Removed, Shift, Added, Modified, End}, specs.declared.fault.TextKind.TextKind, specs.declared.fault.TextKind.TheVariants.{BadTag, FieldCount, BadNumber, UnknownTable, OutOfOrder, NotUtf8, TooLong}, specs.declared.place.Part.Part, specs.declared.place.Place.Place, specs.declared.place.Tag.Tag, specs.declared.raw.RawCell.RawCell, specs.declared.raw.RawRow.RawRow, specs.Cells.{key_of, delta_of, cells_of}, specs.Places.{Opened, opened, is_past}, specs.Records.{field_of, are_texts}}
-use Rattle.feed_reader.specs.declared.place.Part.TheVariants as Parts
+use Rattle.feed_reader.{specs.Said.{Entry, Block, Removed, Shift, Added, Modified, End}, specs.declared.fault.TextKind.TextKind, specs.declared.fault.TextKind.TheVariants.{BadTag, FieldCount, BadNumber, UnknownTable, OutOfOrder, NotUtf8, TooLong}, specs.declared.place.BlockPart.BlockPart, specs.declared.place.BlockState.BlockState, specs.declared.place.Tag.Tag, specs.declared.raw.RawCell.RawCell, specs.declared.raw.RawRow.RawRow, specs.Cells.{key_of, delta_of, cells_of}, specs.Places.{Opened, opened, is_past}, specs.Records.{field_of, are_texts}}
+use Rattle.feed_reader.specs.declared.place.BlockPart.TheVariants as Parts
 use Rattle.feed_reader.specs.declared.place.Tag.TheVariants as Tags
 
 -- the first field is the tag
@@ -91,18 +91,18 @@ abbrev pub modified : Result RawRow TextKind → Result Entry TextKind
 modified (Ok row) = Ok (Modified row)
 modified (Err kind) = Err kind
 
-abbrev pub part_entry : Plan → Option Opened → Part → List (List ℕ) → Result Entry TextKind
+abbrev pub part_entry : Plan → Option Opened → BlockPart → List (List ℕ) → Result Entry TextKind
 part_entry plan None part fields = Err OutOfOrder
 part_entry plan (Some (table, last)) Parts.Removed fields = removed_entry last fields
 part_entry plan (Some (table, last)) Parts.Shifts fields = shift_entry last fields
 part_entry plan (Some (table, last)) Parts.Added fields = added (row_entry (columns_at plan.nodes table) last fields)
 part_entry plan (Some (table, last)) Parts.Modified fields = modified (row_entry (columns_at plan.nodes table) last fields)
 
-abbrev pub tagged_entry : Plan → Place → ℕ → Option Tag → List (List ℕ) → Result Entry TextKind
+abbrev pub tagged_entry : Plan → BlockState → ℕ → Option Tag → List (List ℕ) → Result Entry TextKind
 tagged_entry plan place steps None fields = Err BadTag
 tagged_entry plan place steps (Some Tags.Block) fields = block_entry plan fields
 tagged_entry plan place steps (Some (Tags.Of part)) fields = part_entry plan (opened place part) part fields
 tagged_entry plan place steps (Some Tags.End) fields = end_entry steps fields
 
-abbrev pub entry_of : Plan → Place → ℕ → List (List ℕ) → Result Entry TextKind
+abbrev pub entry_of : Plan → BlockState → ℕ → List (List ℕ) → Result Entry TextKind
 entry_of plan place steps fields = if are_texts fields then tagged_entry plan place steps (tag_of (field_of fields 0)) fields else Err NotUtf8

@@ -3,7 +3,7 @@
 --     batches_of entries      the steps that the records make
 use Rattle.std.{specs.Prelude.{ℕ, ◌+◌, Bool, true, false, List, [], ◌∷◌, Option, Some, None, Ok, Err, length, nat_lt, take_while, if◌then◌else◌}, specs.List.filter_map}
 use Rattle.tick_model.{specs.declared.plan.Plan.Plan, specs.declared.update.KeyRange.KeyRange, specs.declared.update.ShiftRange.ShiftRange}
-use Rattle.feed_reader.{specs.Said.{Entry, Block, Removed, Shift, Added, Modified, End}, specs.declared.fault.TextKind.TheVariants.{TooLong, Unfinished}, specs.declared.place.Place.Place, specs.declared.place.Place.TheVariants.Outside, specs.declared.raw.RawBatch.RawBatch, specs.declared.raw.RawBlock.RawBlock, specs.declared.raw.RawFeed.RawFeed, specs.declared.raw.RawRow.RawRow, specs.Answers.{Reading, read_on}, specs.Entries.entry_of, specs.Places.{place_after, is_outside}, specs.Records.records_of}
+use Rattle.feed_reader.{specs.Said.{Entry, Block, Removed, Shift, Added, Modified, End}, specs.declared.fault.TextKind.TheVariants.{TooLong, Unfinished}, specs.declared.place.BlockState.BlockState, specs.declared.place.BlockState.TheVariants.Outside, specs.declared.raw.RawBatch.RawBatch, specs.declared.raw.RawBlock.RawBlock, specs.declared.raw.RawFeed.RawFeed, specs.declared.raw.RawRow.RawRow, specs.Answers.{Reading, read_on}, specs.Entries.entry_of, specs.Places.{place_after, is_outside}, specs.Records.records_of}
 
 -- What the records say, one after the other, after so many that were read and so many steps that were ended; or the first that is
 -- refused. A feed that ends inside a step is refused at its last record.
@@ -11,7 +11,7 @@ abbrev pub steps_after : ℕ → Entry → ℕ
 steps_after steps End = steps + 1
 steps_after steps _ = steps
 
-abbrev pub entries_in : Plan → Place → ℕ → ℕ → List (List (List ℕ)) → Reading (List Entry)
+abbrev pub entries_in : Plan → BlockState → ℕ → ℕ → List (List (List ℕ)) → Reading (List Entry)
 entries_in plan place steps read [] = if is_outside place then Ok [] else Err (read, Unfinished)
 entries_in plan place steps read (fields ∷ others) =
     read_on (read + 1) (entry_of plan place steps fields)

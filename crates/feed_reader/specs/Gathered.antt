@@ -3,8 +3,8 @@
 --     raw_steps texts kinds read      what is gathered, as it is written
 --     AreNumberedSteps kinds texts read      the rows that are gathered have numbers of texts
 use Rattle.std.{specs.Prelude.{◌≡◌, ℕ, ℤ, List, [], ◌∷◌, ◌++◌, Option, Some, None, map, length, option_map}, specs.List.AllByRecursion, specs.Option.{option_to_list, ForSome}}
-use Rattle.feed_reader.{specs.Said.{Entry, Block, Removed, Shift, Added, Modified, End, row_of_key}, specs.declared.entries.Entry.Entry as Told, specs.declared.gathered.Gathered.Gathered as Read, specs.declared.raw.RawBatch.RawBatch, specs.declared.raw.RawBlock.RawBlock, specs.Raw.{kinds_at, raw_batch, raw_block, IsNumberedRow, IsNumberedBlock}}
-use Rattle.feed_reader.specs.declared.entries.Entry.TheVariants as told
+use Rattle.feed_reader.{specs.Said.{Entry, Block, Removed, Shift, Added, Modified, End, row_of_key}, specs.declared.entries.FeedEntry.FeedEntry as Told, specs.declared.gathered.FeedBuilder.FeedBuilder as Read, specs.declared.raw.RawBatch.RawBatch, specs.declared.raw.RawBlock.RawBlock, specs.Raw.{kinds_at, raw_batch, raw_block, IsNumberedRow, IsNumberedBlock}}
+use Rattle.feed_reader.specs.declared.entries.FeedEntry.TheVariants as told
 use Rattle.tick_model.{specs.declared.feed.Block.Block as BlockRead, specs.declared.plan.Kind.Kind}
 
 pub record Gathered : Type 0 where

@@ -3,8 +3,8 @@
 --     IsReadEntry known kinds read entry      the cells of an entry's row are numbered, and its texts are put behind others
 use Rattle.std.specs.Prelude.{◌≡◌, ℕ, List, [], Result, Ok, Err, ℤ, length}
 use Rattle.tick_model.{specs.declared.plan.Kind.Kind, specs.declared.table.PlainRow.PlainRow, specs.declared.update.KeyRange.KeyRange, specs.declared.update.ShiftRange.ShiftRange, specs.declared.plan.Plan.Plan, specs.Plans.columns_at}
-use Rattle.feed_reader.{specs.declared.entries.Entry.Entry as Read, specs.declared.raw.RawRow.RawRow, specs.declared.fault.TextKind.TextKind, specs.declared.place.Place.Place, specs.declared.place.Place.TheVariants.{Outside, Inside}, specs.declared.cells.ReadCells.ReadCells, specs.Cells.kinds_in, specs.Raw.{raw_row, row_texts, Grows, IsNumberedRow}}
-use Rattle.feed_reader.specs.declared.entries.Entry.TheVariants as reads
+use Rattle.feed_reader.{specs.declared.entries.FeedEntry.FeedEntry as Read, specs.declared.raw.RawRow.RawRow, specs.declared.fault.TextKind.TextKind, specs.declared.place.BlockState.BlockState, specs.declared.place.BlockState.TheVariants.{Outside, Inside}, specs.declared.cells.ReadCells.ReadCells, specs.Cells.kinds_in, specs.Raw.{raw_row, row_texts, Grows, IsNumberedRow}}
+use Rattle.feed_reader.specs.declared.entries.FeedEntry.TheVariants as reads
 
 pub data Entry : Type 0 where
   Block : ℕ → Entry
@@ -38,7 +38,7 @@ told_entry texts kinds cells (Ok entry) = Ok (said texts kinds cells entry)
 told_entry texts kinds cells (Err kind) = Err kind
 
 -- the kinds of the columns of the source whose block is read
-abbrev pub kinds_within : Plan → Place → List Kind
+abbrev pub kinds_within : Plan → BlockState → List Kind
 kinds_within plan Outside = []
 kinds_within plan (Inside table part last) = kinds_in (columns_at plan.nodes table)
 

@@ -11,7 +11,7 @@ ghost use Rattle.feed_reader.specs.Records.{are_texts, at_hand, field_of};
 
 use crate::cells::{ReadCells, delta, key};
 use crate::fault::TextKind;
-use crate::place::{Part, Place, Tag, is_past};
+use crate::place::{BlockPart, BlockState, Tag, is_past};
 use crate::records::Records;
 use std::alloc::{AllocError, Global};
 use tick_model::columns::columns_at;
@@ -24,7 +24,7 @@ const MOST_STEPS: usize = 100_000;
 
 /// What a record of a feed says.
 #[derive(Drop)]
-pub(crate) enum Entry {
+pub(crate) enum FeedEntry {
     /// A block of the source of this node number begins.
     Block(u32),
     Removed(KeyRange),
@@ -44,10 +44,10 @@ fn tag(text: &str) -> Option<Tag>
     };
     match letter {
         b't' => Some(Tag::Block),
-        b'r' => Some(Tag::Of(Part::Removed)),
-        b's' => Some(Tag::Of(Part::Shifts)),
-        b'a' => Some(Tag::Of(Part::Added)),
-        b'm' => Some(Tag::Of(Part::Modified)),
+        b'r' => Some(Tag::Of(BlockPart::Removed)),
+        b's' => Some(Tag::Of(BlockPart::Shifts)),
+        b'a' => Some(Tag::Of(BlockPart::Added)),
+        b'm' => Some(Tag::Of(BlockPart::Modified)),
         b'.' => Some(Tag::End),
         _ => None,
     }
@@ -77,7 +77,7 @@ fn source_named(nodes: &[Node], name: &str) -> Option<u32>
     }
 }
 
-fn block_entry(plan: &Plan, fields: &Records<'_>) -> Result<Entry, TextKind>
+fn block_entry(plan: &Plan, fields: &Records<'_>) -> Result<FeedEntry, TextKind>
     requires { length plan.now.nodes < 2 ^ 32 }
     ensures { (texts : List (List ℕ)) (kinds : List Kind) (cells : List ℤ) → told_entry texts kinds cells result ≡ block_of plan.now (at_hand fields.now) }
 {
@@ -85,19 +85,19 @@ fn block_entry(plan: &Plan, fields: &Records<'_>) -> Result<Entry, TextKind>
         return Err(TextKind::FieldCount);
     }
     match source_named(plan.nodes.as_slice(), fields.field(1)) {
-        Some(table) => Ok(Entry::Block(table)),
+        Some(table) => Ok(FeedEntry::Block(table)),
         None => Err(TextKind::UnknownTable),
     }
 }
 
-fn end_entry(steps: usize, fields: &Records<'_>) -> Result<Entry, TextKind>
+fn end_entry(steps: usize, fields: &Records<'_>) -> Result<FeedEntry, TextKind>
     ensures { (texts : List (List ℕ)) (kinds : List Kind) (cells : List ℤ) → told_entry texts kinds cells result ≡ end_of steps (at_hand fields.now) }
 {
     if fields.len() != 1 {
         return Err(TextKind::FieldCount);
     }
     if steps < MOST_STEPS {
-        Ok(Entry::End)
+        Ok(FeedEntry::End)
     } else {
         Err(TextKind::TooLong)
     }
@@ -116,14 +116,14 @@ fn key_range(fields: &Records<'_>) -> Option<KeyRange>
     }
 }
 
-fn removed_entry(last: Option<u64>, fields: &Records<'_>) -> Result<Entry, TextKind>
+fn removed_entry(last: Option<u64>, fields: &Records<'_>) -> Result<FeedEntry, TextKind>
     ensures { (texts : List (List ℕ)) (kinds : List Kind) (cells : List ℤ) → told_entry texts kinds cells result ≡ removed_of last (at_hand fields.now) }
 {
     if fields.len() != 3 {
         return Err(TextKind::FieldCount);
     }
     match key_range(fields) {
-        Some(range) if is_past(last, range.first) => Ok(Entry::Removed(range)),
+        Some(range) if is_past(last, range.first) => Ok(FeedEntry::Removed(range)),
         Some(_) => Err(TextKind::OutOfOrder),
         None => Err(TextKind::BadNumber),
     }
@@ -141,14 +141,14 @@ fn shift_range(fields: &Records<'_>) -> Option<ShiftRange>
     })
 }
 
-fn shift_entry(last: Option<u64>, fields: &Records<'_>) -> Result<Entry, TextKind>
+fn shift_entry(last: Option<u64>, fields: &Records<'_>) -> Result<FeedEntry, TextKind>
     ensures { (texts : List (List ℕ)) (kinds : List Kind) (cells : List ℤ) → told_entry texts kinds cells result ≡ shift_of last (at_hand fields.now) }
 {
     if fields.len() != 4 {
         return Err(TextKind::FieldCount);
     }
     match shift_range(fields) {
-        Some(range) if is_past(last, range.begin) => Ok(Entry::Shift(range)),
+        Some(range) if is_past(last, range.begin) => Ok(FeedEntry::Shift(range)),
         Some(_) => Err(TextKind::OutOfOrder),
         None => Err(TextKind::BadNumber),
     }
@@ -200,11 +200,11 @@ fn row_entry(
 fn part_entry(
     alloc: Global,
     plan: &Plan,
-    place: Place,
-    part: Part,
+    place: BlockState,
+    part: BlockPart,
     fields: &Records<'_>,
     read: &mut ReadCells,
-) -> Result<Result<Entry, TextKind>, AllocError>
+) -> Result<Result<FeedEntry, TextKind>, AllocError>
     ensures read { IfOk result (λ told. IfOk told (IsReadEntry read.old.texts (kinds_within plan.now place) read.new)) }
     ensures told { IfOk result (λ told. told_entry read.new.texts (kinds_within plan.now place) read.new.cells.items told ≡ part_of plan.now (opened place part) part (at_hand fields.now)) }
 {
@@ -213,11 +213,13 @@ fn part_entry(
     };
     let columns = columns_at(plan.nodes.as_slice(), table);
     match part {
-        Part::Removed => Ok(removed_entry(last, fields)),
-        Part::Shifts => Ok(shift_entry(last, fields)),
-        Part::Added => { Ok(row_entry(alloc, columns, last, fields, read)?.map(Entry::Added)) }
-        Part::Modified => {
-            Ok(row_entry(alloc, columns, last, fields, read)?.map(Entry::Modified))
+        BlockPart::Removed => Ok(removed_entry(last, fields)),
+        BlockPart::Shifts => Ok(shift_entry(last, fields)),
+        BlockPart::Added => {
+            Ok(row_entry(alloc, columns, last, fields, read)?.map(FeedEntry::Added))
+        }
+        BlockPart::Modified => {
+            Ok(row_entry(alloc, columns, last, fields, read)?.map(FeedEntry::Modified))
         }
     }
 }
@@ -226,11 +228,11 @@ fn part_entry(
 pub(crate) fn read_entry(
     alloc: Global,
     plan: &Plan,
-    place: Place,
+    place: BlockState,
     steps: usize,
     fields: &Records<'_>,
     read: &mut ReadCells,
-) -> Result<Result<Entry, TextKind>, AllocError>
+) -> Result<Result<FeedEntry, TextKind>, AllocError>
     requires text { are_texts (at_hand fields.now) ≡ true }
     requires nodes { length plan.now.nodes < 2 ^ 32 }
     ensures read { IfOk result (λ told. IfOk told (IsReadEntry read.old.texts (kinds_within plan.now place) read.new)) }

@@ -11,8 +11,8 @@ ghost use Rattle.feed_reader.specs.Records.{are_texts, at_hand};
 use crate::cells::{ReadCells, kinds_of};
 use crate::entries::read_entry;
 use crate::fault::{TextFault, TextKind};
-use crate::gathered::Gathered;
-use crate::place::Place;
+use crate::gathered::FeedBuilder;
+use crate::place::BlockState;
 use crate::raw::{RawBatches, RawFeed};
 use crate::records::{Next, Records};
 use crate::tables::MOST_BYTES;
@@ -35,9 +35,9 @@ fn kinds_by_node(alloc: Global, plan: &Plan) -> Result<Items<Items<Kind>>, Alloc
 /// What is read of a feed so far.
 #[derive(Drop)]
 struct ReadSteps {
-    place: Place,
+    place: BlockState,
     read: ReadCells,
-    feed: Gathered,
+    feed: FeedBuilder,
 }
 
 impl ReadSteps {
@@ -84,9 +84,9 @@ pub fn read_feed(alloc: Global, bytes: &[u8], plan: &Plan) -> Result<RawFeed, Te
     }
     let mut records = Records::of(alloc, bytes);
     let mut steps = ReadSteps {
-        place: Place::Outside,
+        place: BlockState::Outside,
         read: ReadCells::new(alloc),
-        feed: Gathered::new(alloc),
+        feed: FeedBuilder::new(alloc),
     };
     let mut number = 0;
     'records: loop {

@@ -7,7 +7,7 @@ ghost use Rattle.feed_reader.specs.Raw.{kinds_at, raw_block, IsNumberedBlock};
 ghost use Rattle.feed_reader.specs.Said.{said};
 ghost use Rattle.tick_model.specs.declared.plan.Kind.{Kind};
 
-use crate::entries::Entry;
+use crate::entries::FeedEntry;
 use std::alloc::{AllocError, Global};
 use std::mem;
 use tick_model::feed::{Batch, Block};
@@ -16,7 +16,7 @@ use tick_model::row_list::RowList;
 
 /// The ended steps, the ended blocks of the step at hand, and its last block, which may go on.
 #[derive(Drop)]
-pub(crate) struct Gathered {
+pub(crate) struct FeedBuilder {
     pub(crate) batches: Items<Batch>,
     blocks: Items<Block>,
     block: Option<Block>,
@@ -37,7 +37,7 @@ fn begin_block(alloc: Global, table: u32, number: u64) -> Block
 }
 
 /// Puts a record of one of its parts into a block. The cells are those of a row.
-fn put_part(block: &mut Block, entry: Entry, cells: &[i64]) -> Result<(), AllocError>
+fn put_part(block: &mut Block, entry: FeedEntry, cells: &[i64]) -> Result<(), AllocError>
     requires { FitsRow entry (length cells.now) block.old }
     ensures numbered { (kinds : List (List Kind)) (texts : ℕ) → IsNumberedBlock kinds texts block.old → IsNumberedEntry (kinds_at kinds block.old.table) texts cells.now entry
         → OnOk result (IsNumberedBlock kinds texts block.new) }
@@ -45,19 +45,19 @@ fn put_part(block: &mut Block, entry: Entry, cells: &[i64]) -> Result<(), AllocE
         → OnOk result (raw_block texts kinds block.new ≡ with_entry (said texts (kinds_at kinds block.old.table) cells.now entry) (raw_block texts kinds block.old)) }
 {
     match entry {
-        Entry::Removed(range) => block.removed.push(range),
-        Entry::Shift(range) => block.shifts.push(range),
-        Entry::Added(key) => block.added.push(key, cells),
-        Entry::Modified(key) => block.modified.push(key, cells),
-        Entry::Block(_) | Entry::End => Ok(()),
+        FeedEntry::Removed(range) => block.removed.push(range),
+        FeedEntry::Shift(range) => block.shifts.push(range),
+        FeedEntry::Added(key) => block.added.push(key, cells),
+        FeedEntry::Modified(key) => block.modified.push(key, cells),
+        FeedEntry::Block(_) | FeedEntry::End => Ok(()),
     }
 }
 
-impl Gathered {
-    pub(crate) fn new(alloc: Global) -> Gathered
+impl FeedBuilder {
+    pub(crate) fn new(alloc: Global) -> FeedBuilder
         ensures { result ≡ record { batches = []; blocks = []; block = None } }
     {
-        Gathered {
+        FeedBuilder {
             batches: Items::new(alloc),
             blocks: Items::new(alloc),
             block: None,
@@ -92,7 +92,7 @@ impl Gathered {
         &mut self,
         alloc: Global,
         number: u64,
-        entry: Entry,
+        entry: FeedEntry,
         cells: &[i64],
     ) -> Result<(), AllocError>
         requires { ForSome self.old.block (FitsRow entry (length cells.now)) }
@@ -102,12 +102,12 @@ impl Gathered {
             → OnOk result (raw_steps texts kinds self.new ≡ gathered (raw_steps texts kinds self.old) number (said texts (kinds_of_block kinds self.old.block) cells.now entry)) }
     {
         match entry {
-            Entry::Block(table) => {
+            FeedEntry::Block(table) => {
                 self.end_block()?;
                 self.block = Some(begin_block(alloc, table, number));
                 Ok(())
             }
-            Entry::End => self.end_step(alloc),
+            FeedEntry::End => self.end_step(alloc),
             part => match &mut self.block {
                 Some(block) => put_part(block, part, cells),
                 None => Ok(()),

@@ -11,11 +11,11 @@ use tick_model::name::Name;
 
 /// The distinct texts that are noted. Contracts see them in byte order.
 #[derive(Drop)]
-pub(crate) struct Noted<'a> {
+pub(crate) struct NotedTexts<'a> {
     ordered: BTreeSet<&'a str>,
 }
 
-impl<'a> Model for Noted<'a> {
+impl<'a> Model for NotedTexts<'a> {
     ghost use Rattle.std.specs.Prelude.{List, ℕ};
     ghost use Rattle.tick_model.specs.LawfulRuns.{AreTexts};
     ghost use Rattle.feed_reader.specs.Noted.{noted};
@@ -27,12 +27,12 @@ impl<'a> Model for Noted<'a> {
     ghost invariant = { λ a. AreTexts (noted a.ordered) };
 }
 
-impl<'a> Noted<'a> {
+impl<'a> NotedTexts<'a> {
     /// No texts.
-    pub(crate) fn new(alloc: Global) -> Noted<'a>
+    pub(crate) fn new(alloc: Global) -> NotedTexts<'a>
         ensures { result ≡ [] }
     {
-        Noted {
+        NotedTexts {
             ordered: BTreeSet::new(alloc),
         }
     }

@@ -4,13 +4,13 @@ ghost use Rattle.std.specs.Prelude.{◌≡◌, OnOk, IfOk, flat_map};
 ghost use Rattle.tick_model.specs.LawfulRuns.{AreTexts};
 ghost use Rattle.feed_reader.specs.Coding.{with_texts, table_texts, texts_of as texts_of_run};
 
-use crate::noted::Noted;
+use crate::noted::NotedTexts;
 use crate::raw::{RawFeed, RawTable};
 use std::alloc::{AllocError, Global};
 use tick_model::items::Items;
 use tick_model::name::Name;
 
-fn note_names<'a>(texts: &mut Noted<'a>, names: &'a [Name]) -> Result<(), AllocError>
+fn note_names<'a>(texts: &mut NotedTexts<'a>, names: &'a [Name]) -> Result<(), AllocError>
     ensures { OnOk result (texts.new ≡ with_texts texts.old names.now) }
 {
     for name in names {
@@ -19,7 +19,7 @@ fn note_names<'a>(texts: &mut Noted<'a>, names: &'a [Name]) -> Result<(), AllocE
     Ok(())
 }
 
-fn note_tables<'a>(texts: &mut Noted<'a>, tables: &'a [RawTable]) -> Result<(), AllocError>
+fn note_tables<'a>(texts: &mut NotedTexts<'a>, tables: &'a [RawTable]) -> Result<(), AllocError>
     requires { AreTexts texts.old }
     ensures { OnOk result (texts.new ≡ with_texts texts.old (flat_map table_texts tables.now)) }
 {
@@ -38,7 +38,7 @@ pub(crate) fn texts_of(
 ) -> Result<Items<Name>, AllocError>
     ensures { IfOk result (λ texts. texts ≡ texts_of_run literals.now tables.now feed.now) }
 {
-    let mut texts = Noted::new(alloc);
+    let mut texts = NotedTexts::new(alloc);
     note_names(&mut texts, literals)?;
     note_tables(&mut texts, tables)?;
     note_names(&mut texts, feed.batches.cell_texts())?;

@@ -2,7 +2,7 @@
 use Rattle.std.proofs.Common.{◌≡◌, ◌⊎◌, ℕ, List, [], ◌++◌, Bool, Option, Some, None, Result, Ok, Err, refl, sym, ap, ◌∙◌, subst, append_assoc, inl, inr}
 use Rattle.std.{proofs.lemmas.List.append-nil, specs.Prelude.IsTrue}
 use Rattle.tick_io.specs.Asked.{AsksFor, AsksSome}
-use Rattle.feed_run.{specs.declared.refusal.Stop.Stop, specs.declared.refusal.Stop.TheVariants.{Memory, Unread, Refused}, specs.Answers.{EndsByStop, HasAsked}, specs.Found.{Found, names_after}, specs.Stops.{Asks, AsksUntil, OnFound, OnRefused, Reads}}
+use Rattle.feed_run.{specs.declared.refusal.LoadStop.LoadStop, specs.declared.refusal.LoadStop.TheVariants.{Memory, Unread, Refused}, specs.Answers.{EndsByStop, HasAsked}, specs.Found.{Found, names_after}, specs.Stops.{Asks, AsksUntil, OnFound, OnRefused, Reads}}
 
 -- none, and some after others
 asked_none : (asked : Option (List (List ℕ))) → AsksFor asked asked []
@@ -43,17 +43,17 @@ module _ (old new : Option (List (List ℕ))) (names : List (List ℕ)) where
 
 module _ (told : Bool) (old new : Option (List (List ℕ))) where
   -- all of the names, whatever stopped
-  pub until_all : (names : List (List ℕ)) (stop : Stop) → AsksFor old new names → AsksUntil told old new names stop
+  pub until_all : (names : List (List ℕ)) (stop : LoadStop) → AsksFor old new names → AsksUntil told old new names stop
   until_all names Memory is = λ t. some_of_all old new names is
   until_all names (Unread name) is = λ t. some_of_all old new names is
   until_all names (Refused refusal) is = λ t. is
 
-  pub asks_all : {X : Type 0} (names : List (List ℕ)) (result : Result X Stop) → AsksFor old new names → Asks told old new names result
+  pub asks_all : {X : Type 0} (names : List (List ℕ)) (result : Result X LoadStop) → AsksFor old new names → Asks told old new names result
   asks_all names (Ok value) is = λ t. is
   asks_all names (Err stop) is = until_all names stop is
 
   -- the first part stopped, so the names of the next are not asked for
-  pub until_stopped : {X Y : Type 0} (failed read : List ℕ → Type 0) (names : List (List ℕ)) (found : Found Y) (next : Y → List (List ℕ)) (view : X → Y) (stop : Stop) → Reads told failed read found view (Err stop) → AsksUntil told old new names stop → AsksUntil told old new (names ++ names_after found next) stop
+  pub until_stopped : {X Y : Type 0} (failed read : List ℕ → Type 0) (names : List (List ℕ)) (found : Found Y) (next : Y → List (List ℕ)) (view : X → Y) (stop : LoadStop) → Reads told failed read found view (Err stop) → AsksUntil told old new names stop → AsksUntil told old new (names ++ names_after found next) stop
   until_stopped failed read names found next view Memory reads asks = λ t. some_of_more old new names (names_after found next) (asks t)
   until_stopped failed read names found next view (Unread name) reads asks = λ t. some_of_more old new names (names_after found next) (asks t)
   until_stopped failed read names found next view (Refused refusal) reads asks = λ t.
@@ -67,31 +67,31 @@ module _ (told : Bool) (old new : Option (List (List ℕ))) where
     first_after : (IsTrue told → AsksSome mid new later) → IsTrue told → AsksSome old new names
     first_after asks t = subst (AsksSome old new) (are t) (some_after old new later mid first (before t) (asks t))
 
-    pub until_after : (stop : Stop) → AsksUntil told mid new later stop → AsksUntil told old new names stop
+    pub until_after : (stop : LoadStop) → AsksUntil told mid new later stop → AsksUntil told old new names stop
     until_after Memory asks = first_after asks
     until_after (Unread name) asks = first_after asks
     until_after (Refused refusal) asks = all_after asks
 
-    pub asks_after : {X : Type 0} (result : Result X Stop) → Asks told mid new later result → Asks told old new names result
+    pub asks_after : {X : Type 0} (result : Result X LoadStop) → Asks told mid new later result → Asks told old new names result
     asks_after (Ok value) asks = all_after asks
     asks_after (Err stop) asks = until_after stop asks
 
 -- what holds where a value or a refusal is found
-pub on_refused_more : {P Q : Type 0} (stop : Stop) → (P → Q) → OnRefused stop P → OnRefused stop Q
+pub on_refused_more : {P Q : Type 0} (stop : LoadStop) → (P → Q) → OnRefused stop P → OnRefused stop Q
 on_refused_more Memory more holds = tt
 on_refused_more (Unread name) more holds = tt
 on_refused_more (Refused refusal) more holds = more holds
 
-pub on_found_more : {X P Q : Type 0} (result : Result X Stop) → (P → Q) → OnFound result P → OnFound result Q
+pub on_found_more : {X P Q : Type 0} (result : Result X LoadStop) → (P → Q) → OnFound result P → OnFound result Q
 on_found_more (Ok value) more holds = more holds
 on_found_more (Err stop) more holds = on_refused_more stop more holds
 
-pub on_refused : {P : Type 0} (stop : Stop) → P → OnRefused stop P
+pub on_refused : {P : Type 0} (stop : LoadStop) → P → OnRefused stop P
 on_refused Memory holds = tt
 on_refused (Unread name) holds = tt
 on_refused (Refused refusal) holds = holds
 
-pub on_found : {X P : Type 0} (result : Result X Stop) → P → OnFound result P
+pub on_found : {X P : Type 0} (result : Result X LoadStop) → P → OnFound result P
 on_found (Ok value) holds = holds
 on_found (Err stop) holds = on_refused stop holds
 
@@ -106,7 +106,7 @@ module _ (told : Bool) (old new : Option (List (List ℕ))) (names : List (List 
   asked_some (inr (inl three)) some = record { some = some; all = λ of. absurd (of.1 three); steady = λ of. absurd (of.1 three) }
   asked_some (inr (inr ten)) some = record { some = some; all = λ of. absurd (of.2 ten); steady = λ of. absurd (of.2 ten) }
 
-  pub asked_until : (failed : Type 0) (bytes written : Option (List ℕ)) (stop : Stop) → AsksUntil told old new names stop → OnRefused stop none_failed → EndsByStop stop failed bytes written status → HasAsked told old new names none_failed status
+  pub asked_until : (failed : Type 0) (bytes written : Option (List ℕ)) (stop : LoadStop) → AsksUntil told old new names stop → OnRefused stop none_failed → EndsByStop stop failed bytes written status → HasAsked told old new names none_failed status
   asked_until failed bytes written Memory some steady ends = asked_some (inl ends.0) some
   asked_until failed bytes written (Unread name) some steady (inl (three, all)) = asked_some (inr (inl three)) some
   asked_until failed bytes written (Unread name) some steady (inr (inl (one, prefix))) = asked_some (inl one) some

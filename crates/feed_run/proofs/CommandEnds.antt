@@ -3,7 +3,7 @@ use Rattle.std.proofs.Common.{◌≡◌, ℕ, List, [], Bool, true, Option, Some
 use Rattle.std.specs.Prelude.{option_map}
 use Rattle.command_words.{specs.declared.command.Command.Command, specs.declared.command.Task.Task, specs.declared.command.Task.TheVariants.{Run as RunTask, Demo, Watch as WatchTask}}
 use Rattle.replay.specs.declared.outcome.Knobs.{Knobs}
-use Rattle.feed_run.{specs.declared.refusal.Refusal.TheVariants.Usage, specs.declared.refusal.Stop.TheVariants.Refused as Stopped, specs.Answers.{Answers, EndsBy, EndsByStop, HasAsked}, specs.Headline.IsOneOf, specs.Readings.{Content, run_found, files_read, script_in}, specs.Verdicts.{Refused, Summary, command_files, command_told, command_verdict, found_verdict, knobs_of, task_files, task_told, task_verdict, watch_files, watch_of, watch_verdict}, proofs.AskLemmas.{asked_all, asked_same}}
+use Rattle.feed_run.{specs.declared.refusal.Refusal.TheVariants.Usage, specs.declared.refusal.LoadStop.TheVariants.Refused as Stopped, specs.Answers.{Answers, EndsBy, EndsByStop, HasAsked}, specs.Headline.IsOneOf, specs.Readings.{Content, run_found, files_read, script_in}, specs.Verdicts.{Refused, Summary, command_files, command_told, command_verdict, found_verdict, knobs_of, task_files, task_told, task_verdict, watch_files, watch_of, watch_verdict}, proofs.AskLemmas.{asked_all, asked_same}}
 
 module _ (told : Bool) (unread : List ℕ → Type 0) (failed : Type 0) (old new : Option (List ℕ)) (answer : ℕ) (content : Content) where
   abbrev OfFiles : Knobs → List ℕ → List ℕ → Type 0

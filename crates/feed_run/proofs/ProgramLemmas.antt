@@ -4,7 +4,7 @@ use Rattle.std.specs.Prelude.{IsTrue, option_map}
 use Rattle.tick_model.specs.declared.feed.Run.{Run}
 use Rattle.feed_reader.specs.Assembled.{plain_run}
 use Rattle.replay.specs.declared.outcome.Knobs.{Knobs}
-use Rattle.feed_run.{specs.declared.refusal.Stop.Stop, specs.declared.refusal.Stop.TheVariants.{Memory, Unread, Refused as Stopped}, specs.Answers.{Ends, EndsByStop, EndsByRun, Answers}, specs.Found.Found, specs.Headline.{NoneFailed, IsComplete, TellsVerdict, TellsLoadFault, OfVerdict, OfLoad, WritesPrefix, WritesPrefixOrNothing}, specs.Stops.Reads, specs.Verdicts.{Verdict, Refused, found_verdict, status_of}, specs.Wholes.whole, proofs.PlainVerdicts.{plainly, verdict_plain, whole_plain, lawful_plain, status_plain}, proofs.Statuses.verdict_status}
+use Rattle.feed_run.{specs.declared.refusal.LoadStop.LoadStop, specs.declared.refusal.LoadStop.TheVariants.{Memory, Unread, Refused as Stopped}, specs.Answers.{Ends, EndsByStop, EndsByRun, Answers}, specs.Found.Found, specs.Headline.{NoneFailed, IsComplete, TellsVerdict, TellsLoadFault, OfVerdict, OfLoad, WritesPrefix, WritesPrefixOrNothing}, specs.Stops.Reads, specs.Verdicts.{Verdict, Refused, found_verdict, status_of}, specs.Wholes.whole, proofs.PlainVerdicts.{plainly, verdict_plain, whole_plain, lawful_plain, status_plain}, proofs.Statuses.verdict_status}
 
 module _ (told : Bool) (unread read : List ℕ → Type 0) (failed : Type 0) (old new : Option (List ℕ)) (answer : ℕ) where
   -- a run that was read and run to its end
@@ -21,7 +21,7 @@ module _ (told : Bool) (unread read : List ℕ → Type 0) (failed : Type 0) (ol
       )
 
   -- a run that was not read
-  pub stop_ends : (knobs : Knobs) (found : Found Run) (stop : Stop) → Reads {X = Run} told unread read found plain_run (Err stop) → EndsByStop stop failed old new answer → Answers told (found_verdict knobs found) unread read failed old new answer
+  pub stop_ends : (knobs : Knobs) (found : Found Run) (stop : LoadStop) → Reads {X = Run} told unread read found plain_run (Err stop) → EndsByStop stop failed old new answer → Answers told (found_verdict knobs found) unread read failed old new answer
   stop_ends knobs found Memory reads ends = inr (inr ends)
   stop_ends knobs found (Unread name) reads ends = inr (inl (name, reads.0, reads.1, ends))
   stop_ends knobs found (Stopped refusal) reads ends = inl (Refused refusal, (λ t. ap (found_verdict knobs) (reads t)), ([], refl, ends))

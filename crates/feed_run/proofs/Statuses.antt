@@ -4,7 +4,7 @@ use Rattle.std.{specs.Prelude.{nat_lt, option_map}, proofs.lemmas.Option.same_So
 use Rattle.tick_model.{specs.declared.feed.Run.Run, specs.Spoiled.{Cause, ByBatch, ByNode, ByPublication, first_spoiled, spoiled_by}, specs.Texts.record_text}
 use Rattle.command_words.{specs.declared.command.Command.Command, specs.declared.command.Task.Task, specs.declared.command.Task.TheVariants.Watch as WatchTask, specs.Commands.command}
 use Rattle.replay.{specs.declared.outcome.Knobs.Knobs, specs.Kept.{kept_words, most_words}}
-use Rattle.feed_run.{specs.declared.refusal.Refusal.Refusal, specs.declared.refusal.Refusal.TheVariants.{Usage, Script, Table, Feed}, specs.declared.refusal.Stop.Stop, specs.declared.refusal.Stop.TheVariants.{Memory, Unread, Refused as Stopped}, specs.Answers.{Answers, Ends, EndsBy, EndsByRun, EndsByStop}, specs.Headline.{AsksForWatch, IsStatus, IsTaskStatus, IsWatch}, specs.Verdicts.{Verdict, Refused, Summary, Kept, Spoiled, Done, Unnamed, WatchSpoiled, WatchDone, refusal_status, run_verdict, status_of, steps_verdict}, specs.Wholes.{refusal_record, unread_record, whole}}
+use Rattle.feed_run.{specs.declared.refusal.Refusal.Refusal, specs.declared.refusal.Refusal.TheVariants.{Usage, Script, Table, Feed}, specs.declared.refusal.LoadStop.LoadStop, specs.declared.refusal.LoadStop.TheVariants.{Memory, Unread, Refused as Stopped}, specs.Answers.{Answers, Ends, EndsBy, EndsByRun, EndsByStop}, specs.Headline.{AsksForWatch, IsStatus, IsTaskStatus, IsWatch}, specs.Verdicts.{Verdict, Refused, Summary, Kept, Spoiled, Done, Unnamed, WatchSpoiled, WatchDone, refusal_status, run_verdict, status_of, steps_verdict}, specs.Wholes.{refusal_record, unread_record, whole}}
 
 -- the statuses of verdicts: none is that of a fault, and one is that of a watched run alone
 pub record IsVerdictStatus (status : ℕ) : Type 0 where
@@ -66,7 +66,7 @@ module _ (failed : Type 0) (old new : Option (List ℕ)) (answer : ℕ) where
   pub run_status : (run : Run) (knobs : Knobs) → EndsByRun run knobs failed old new answer → answer ≤ 10
   run_status run knobs (of, verdict, (choice, lawful, ends)) = ends_few (status_of of) (whole of choice) (run_few run knobs of verdict) ends
 
-  pub stop_status : (stop : Stop) → EndsByStop stop failed old new answer → answer ≤ 10
+  pub stop_status : (stop : LoadStop) → EndsByStop stop failed old new answer → answer ≤ 10
   stop_status Memory ends = omega (arith, ends.0)
   stop_status (Unread name) ends = ends_few 3 (record_text (unread_record name)) (omega arith) ends
   stop_status (Stopped refusal) ends = ends_few (refusal_status refusal) (record_text (refusal_record refusal)) (refusal_few refusal) ends

@@ -5,7 +5,7 @@ use Rattle.tick_io.specs.Asked.{AsksFor}
 use Rattle.tick_model.specs.declared.plan.Node.{Node}
 use Rattle.script_reader.specs.declared.script.SourceFile.{SourceFile}
 use Rattle.feed_reader.{specs.declared.raw.RawTable.RawTable, specs.Assembled.{IsTableOf, AreTablesOf}}
-use Rattle.feed_run.{specs.declared.refusal.Stop.Stop, specs.declared.refusal.Stop.TheVariants.{Memory, Unread, Refused}, specs.Found.{Found, after, names_after}, specs.Headline.IsOneOf, specs.Readings.{Content, first_file, opening_by, with_table, tables_found, tables_read}, specs.Stops.{AsksUntil, Reads}, proofs.AskLemmas.{asked_both, asked_same, until_after, until_all, until_stopped}, proofs.StopLemmas.{one_of_front, one_of_back}}
+use Rattle.feed_run.{specs.declared.refusal.LoadStop.LoadStop, specs.declared.refusal.LoadStop.TheVariants.{Memory, Unread, Refused}, specs.Found.{Found, after, names_after}, specs.Headline.IsOneOf, specs.Readings.{Content, first_file, opening_by, with_table, tables_found, tables_read}, specs.Stops.{AsksUntil, Reads}, proofs.AskLemmas.{asked_both, asked_same, until_after, until_all, until_stopped}, proofs.StopLemmas.{one_of_front, one_of_back}}
 
 -- the tables so far, before the later ones
 abbrev pub onto : List RawTable → List RawTable → Found (List RawTable)
@@ -47,7 +47,7 @@ module _ (told : Bool) (content : Content) (all : List Node) (all_files : List S
     are = λ later rest. subst (AreTablesOf all) (sym (append_assoc tables (table ∷ []) later)) (opens.are (table ∷ later) (is, rest));
   }
 
-  pub opens_stop : (failed earlier : List ℕ → Type 0) (source : Node) (sources : List Node) (files : List SourceFile) (tables : List RawTable) (stop : Stop) → ((name : List ℕ) → earlier name → failed name) → Reads {X = RawTable} told earlier (IsOneOf (option_to_list (first_file files))) (opening_by content source (first_file files)) (λ table. table) (Err stop) → Opens told content all all_files (source ∷ sources) files tables → Reads {X = List RawTable} told failed (IsOneOf (tables_read content all all_files)) (tables_found content all all_files) (λ own. own) (Err stop)
+  pub opens_stop : (failed earlier : List ℕ → Type 0) (source : Node) (sources : List Node) (files : List SourceFile) (tables : List RawTable) (stop : LoadStop) → ((name : List ℕ) → earlier name → failed name) → Reads {X = RawTable} told earlier (IsOneOf (option_to_list (first_file files))) (opening_by content source (first_file files)) (λ table. table) (Err stop) → Opens told content all all_files (source ∷ sources) files tables → Reads {X = List RawTable} told failed (IsOneOf (tables_read content all all_files)) (tables_found content all all_files) (λ own. own) (Err stop)
   opens_stop failed earlier source sources files tables Memory wider reads opens = tt
   opens_stop failed earlier source sources files tables (Unread name) wider reads opens = (
     wider name reads.0,
@@ -95,7 +95,7 @@ module _ (told : Bool) (content : Content) (all : List Node) (all_files : List S
     }
 
     -- the source's table was not read, or memory ran out behind it
-    pub asks_stop : (failed read : List ℕ → Type 0) (stop : Stop) → Reads {X = RawTable} told failed read (opening_by content source (first_file files)) (λ table. table) (Err stop) → AsksUntil told old new (tables_read content all all_files) stop
+    pub asks_stop : (failed read : List ℕ → Type 0) (stop : LoadStop) → Reads {X = RawTable} told failed read (opening_by content source (first_file files)) (λ table. table) (Err stop) → AsksUntil told old new (tables_read content all all_files) stop
     asks_stop failed read stop reads =
         until_after told old new mid (tables_read content all all_files) on.names (tables_read content (source ∷ sources) files) on.rest (λ t. on.asked) stop
         (until_stopped told mid new failed read file (opening_by content source (first_file files)) later (λ (table : RawTable). table) stop reads (until_all told mid new file stop asked_file))

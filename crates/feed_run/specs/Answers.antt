@@ -5,7 +5,7 @@ use Rattle.tick_model.{specs.declared.feed.Run.Run, specs.Texts.record_text, spe
 use Rattle.command_words.{specs.declared.command.Task.Task, specs.declared.command.Task.TheVariants.{Run as RunTask, Demo, Watch as WatchTask}}
 use Rattle.replay.specs.declared.outcome.Knobs.{Knobs}
 use Rattle.update_text.{specs.declared.fault.WriteFault.WriteFault, specs.declared.fault.WriteFault.TheVariants.{Memory, Failed}}
-use Rattle.feed_run.{specs.declared.refusal.Stop.Stop, specs.declared.refusal.Stop.TheVariants.{Memory as OutOfMemory, Unread, Refused}, specs.Headline.IsOfVerdict, specs.Verdicts.{Verdict, refusal_status, run_verdict, status_of, watched_steps_verdict}, specs.Wholes.{refusal_record, unread_record, whole, IsLawful}}
+use Rattle.feed_run.{specs.declared.refusal.LoadStop.LoadStop, specs.declared.refusal.LoadStop.TheVariants.{Memory as OutOfMemory, Unread, Refused}, specs.Headline.IsOfVerdict, specs.Verdicts.{Verdict, refusal_status, run_verdict, status_of, watched_steps_verdict}, specs.Wholes.{refusal_record, unread_record, whole, IsLawful}}
 use Rattle.watched_run.specs.declared.watch.Watch.{Watch}
 
 -- a made run has at most so many steps, and watched rows have positions in their range
@@ -30,7 +30,7 @@ abbrev pub EndsBy : Verdict → Type 0 → Option (List ℕ) → Option (List �
 EndsBy of failed old new answer = (choice : List (List ℕ)) × IsLawful of choice × Ends (status_of of) (whole of choice) failed old new answer
 
 -- why there is no run is reported
-abbrev pub EndsByStop : Stop → Type 0 → Option (List ℕ) → Option (List ℕ) → ℕ → Type 0
+abbrev pub EndsByStop : LoadStop → Type 0 → Option (List ℕ) → Option (List ℕ) → ℕ → Type 0
 EndsByStop OutOfMemory failed old new answer = (answer ≡ 1) × (new ≡ old)
 EndsByStop (Unread name) failed old new answer = Ends 3 (record_text (unread_record name)) failed old new answer
 EndsByStop (Refused refusal) failed old new answer = Ends (refusal_status refusal) (record_text (refusal_record refusal)) failed old new answer

@@ -19,5 +19,5 @@ mod tables;
 mod watching;
 
 pub use program::tick_main;
-pub use refusal::{Refusal, Stop};
+pub use refusal::{LoadStop, Refusal};
 pub use run::read_run;

@@ -6,18 +6,18 @@ ghost use Rattle.tick_io.specs.Counts.{Rose};
 ghost use Rattle.feed_run.specs.Headline.{NoLoadFailed};
 ghost use Rattle.feed_run.specs.Stops.{IsUnread, Loads, OnFound};
 
-use crate::refusal::Stop;
+use crate::refusal::LoadStop;
 use std::alloc::Global;
 use tick_io::{Inputs, LoadFault};
 use tick_model::name::Name;
 
 /// That a file could not be read.
-fn unread(alloc: Global, name: &str) -> Stop
+fn unread(alloc: Global, name: &str) -> LoadStop
     ensures { IsUnread name.now result }
 {
     match String::from_str(alloc, name) {
-        Ok(name) => Stop::Unread(Name::of(name)),
-        Err(_) => Stop::Memory,
+        Ok(name) => LoadStop::Unread(Name::of(name)),
+        Err(_) => LoadStop::Memory,
     }
 }
 
@@ -27,7 +27,7 @@ pub(crate) fn load<I: Inputs>(
     inputs: &mut I,
     name: &str,
     most: usize,
-) -> Result<Option<Vec<u8>>, Stop>
+) -> Result<Option<Vec<u8>>, LoadStop>
     ensures loads { Loads I.told most (I.content inputs.old name.now)
         (Rose (I.failures inputs.old name.now) (I.failures inputs.new name.now)) name.now result }
     ensures never_falls { (other : List ℕ) → I.failures inputs.old other ≤ I.failures inputs.new other }
@@ -37,7 +37,7 @@ pub(crate) fn load<I: Inputs>(
 {
     match inputs.load(alloc, name, most) {
         Ok(bytes) => Ok(Some(bytes)),
-        Err(LoadFault::Memory) => Err(Stop::Memory),
+        Err(LoadFault::Memory) => Err(LoadStop::Memory),
         Err(LoadFault::TooLong { .. }) => Ok(None),
         Err(LoadFault::Failed) => Err(unread(alloc, name)),
     }

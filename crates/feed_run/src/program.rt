@@ -8,7 +8,7 @@ ghost use Rattle.feed_run.specs.Headline.{IsComplete, IsOfVerdict, IsOneOf, IsRe
 ghost use Rattle.feed_run.specs.Verdicts.{are_told, files, knobs_of as knobs_of_command, task_files, task_told, task_verdict, verdict};
 
 use crate::demo::demo;
-use crate::refusal::{Refusal, Stop};
+use crate::refusal::{LoadStop, Refusal};
 use crate::reports::report_stop;
 use crate::run::{read_run, run_to_end};
 use crate::watching::{Asked, watch};
@@ -104,7 +104,7 @@ fn answer<R: Threads + Wait + Sync, I: Inputs, S: Sink, G: Gate>(
 {
     let command = match read_words(alloc, words) {
         Ok(Some(command)) => command,
-        Ok(None) => return report_stop(alloc, out, &Stop::Refused(Refusal::Usage)),
+        Ok(None) => return report_stop(alloc, out, &LoadStop::Refused(Refusal::Usage)),
         Err(AllocError) => return 1,
     };
     let knobs = knobs_of(&command);

@@ -11,7 +11,7 @@ ghost use Rattle.feed_run.specs.Stops.{IsRefusal, OnFound, Reads, Says};
 ghost use Rattle.feed_run.specs.declared.refusal.Refusal.TheVariants.{Table};
 
 use crate::loading::load;
-use crate::refusal::{Refusal, Stop};
+use crate::refusal::{LoadStop, Refusal};
 use feed_reader::{MOST_BYTES, RawFeed, RawTable, TextFault, TextKind, read_feed, read_table};
 use script_lines::fault::ScriptKind;
 use script_reader::fault::ScriptFault;
@@ -23,14 +23,14 @@ use tick_model::name::Name;
 use tick_model::plan::{Node, Plan};
 
 /// The script that bytes spell.
-fn spelled_script(alloc: Global, bytes: &[u8]) -> Result<Script, Stop>
+fn spelled_script(alloc: Global, bytes: &[u8]) -> Result<Script, LoadStop>
     ensures { Says (script_in bytes.now) plain_script result }
 {
     match read_script(alloc, bytes) {
         Ok(script) => Ok(script),
-        Err(ScriptFault::Memory) => Err(Stop::Memory),
+        Err(ScriptFault::Memory) => Err(LoadStop::Memory),
         Err(ScriptFault::Refused { line, kind }) => {
-            Err(Stop::Refused(Refusal::Script { line, kind }))
+            Err(LoadStop::Refused(Refusal::Script { line, kind }))
         }
     }
 }
@@ -40,7 +40,7 @@ pub(crate) fn load_script<I: Inputs>(
     alloc: Global,
     inputs: &mut I,
     name: &str,
-) -> Result<Script, Stop>
+) -> Result<Script, LoadStop>
     ensures reads { Reads I.told (LoadFailed I.failures inputs.old inputs.new) (IsOneOf (name.now ∷ []))
         (option_map script_in (I.content inputs.old name.now)) plain_script result }
     ensures script { IfOk result (λ script. (bytes : List ℕ) × (script_in bytes ≡ Ok (plain_script script))) }
@@ -51,7 +51,7 @@ pub(crate) fn load_script<I: Inputs>(
 {
     match load(alloc, inputs, name, MOST_SCRIPT_BYTES)? {
         Some(bytes) => spelled_script(alloc, bytes.as_slice()),
-        None => Err(Stop::Refused(Refusal::Script {
+        None => Err(LoadStop::Refused(Refusal::Script {
             line: 0,
             kind: ScriptKind::TooLong,
         })),
@@ -59,26 +59,26 @@ pub(crate) fn load_script<I: Inputs>(
 }
 
 /// That a record of the table file of a source is refused.
-fn refused_table(alloc: Global, source: &Node, number: u64, kind: TextKind) -> Stop
+fn refused_table(alloc: Global, source: &Node, number: u64, kind: TextKind) -> LoadStop
     ensures { IsRefusal (Table source.now.name number kind) result }
 {
     match String::from_str(alloc, source.name.as_str()) {
-        Ok(name) => Stop::Refused(Refusal::Table {
+        Ok(name) => LoadStop::Refused(Refusal::Table {
             source: Name::of(name),
             number,
             kind,
         }),
-        Err(_) => Stop::Memory,
+        Err(_) => LoadStop::Memory,
     }
 }
 
 /// The table that bytes spell, of a source.
-fn spelled_table(alloc: Global, source: &Node, bytes: &[u8]) -> Result<RawTable, Stop>
+fn spelled_table(alloc: Global, source: &Node, bytes: &[u8]) -> Result<RawTable, LoadStop>
     ensures { Says (table_in source.now bytes.now) (λ table. table) result }
 {
     match read_table(alloc, bytes, &source.columns) {
         Ok(table) => Ok(table),
-        Err(TextFault::Memory) => Err(Stop::Memory),
+        Err(TextFault::Memory) => Err(LoadStop::Memory),
         Err(TextFault::Refused { number, kind }) => Err(refused_table(alloc, source, number, kind)),
     }
 }
@@ -89,7 +89,7 @@ pub(crate) fn load_table<I: Inputs>(
     inputs: &mut I,
     source: &Node,
     name: &str,
-) -> Result<RawTable, Stop>
+) -> Result<RawTable, LoadStop>
     ensures reads { Reads I.told (LoadFailed I.failures inputs.old inputs.new) (IsOneOf (name.now ∷ []))
         (option_map (table_in source.now) (I.content inputs.old name.now)) (λ table. table) result }
     ensures table { IfOk result (IsTableOf source.now.columns) }
@@ -105,15 +105,15 @@ pub(crate) fn load_table<I: Inputs>(
 }
 
 /// The feed that bytes spell, of a plan.
-fn spelled_feed(alloc: Global, plan: &Plan, bytes: &[u8]) -> Result<RawFeed, Stop>
+fn spelled_feed(alloc: Global, plan: &Plan, bytes: &[u8]) -> Result<RawFeed, LoadStop>
     requires { length plan.now.nodes < 2 ^ 32 }
     ensures { Says (feed_in plan.now bytes.now) (λ feed. feed) result }
 {
     match read_feed(alloc, bytes, plan) {
         Ok(feed) => Ok(feed),
-        Err(TextFault::Memory) => Err(Stop::Memory),
+        Err(TextFault::Memory) => Err(LoadStop::Memory),
         Err(TextFault::Refused { number, kind }) => {
-            Err(Stop::Refused(Refusal::Feed { number, kind }))
+            Err(LoadStop::Refused(Refusal::Feed { number, kind }))
         }
     }
 }
@@ -124,7 +124,7 @@ pub(crate) fn load_feed<I: Inputs>(
     inputs: &mut I,
     plan: &Plan,
     name: &str,
-) -> Result<RawFeed, Stop>
+) -> Result<RawFeed, LoadStop>
     requires { length plan.now.nodes < 2 ^ 32 }
     ensures reads { Reads I.told (LoadFailed I.failures inputs.old inputs.new) (IsOneOf (name.now ∷ []))
         (option_map (feed_in plan.now) (I.content inputs.old name.now)) (λ feed. feed) result }
@@ -136,7 +136,7 @@ pub(crate) fn load_feed<I: Inputs>(
 {
     match load(alloc, inputs, name, MOST_BYTES)? {
         Some(bytes) => spelled_feed(alloc, plan, bytes.as_slice()),
-        None => Err(Stop::Refused(Refusal::Feed {
+        None => Err(LoadStop::Refused(Refusal::Feed {
             number: 0,
             kind: TextKind::TooLong,
         })),

@@ -1,7 +1,7 @@
 //! Why there is no run.
 
 ghost use Rattle.std.specs.Prelude.{◌≡◌};
-ghost use Rattle.feed_run.specs.declared.refusal.Stop.TheVariants.{Memory};
+ghost use Rattle.feed_run.specs.declared.refusal.LoadStop.TheVariants.{Memory};
 
 use feed_reader::TextKind;
 use script_lines::fault::ScriptKind;
@@ -33,7 +33,7 @@ pub enum Refusal {
 
 /// Why there is no run.
 #[derive(Drop)]
-pub enum Stop {
+pub enum LoadStop {
     /// Memory ran out.
     Memory,
     /// The file of this name could not be read.
@@ -42,18 +42,18 @@ pub enum Stop {
     Refused(Refusal),
 }
 
-impl From<AllocError> for Stop {
+impl From<AllocError> for LoadStop {
     ghost from_gives = { λ _ stop. stop ≡ Memory };
 
     fn from(_: AllocError) -> Self {
-        Stop::Memory
+        LoadStop::Memory
     }
 }
 
-impl<T: Drop> From<AllocFailed<T>> for Stop {
+impl<T: Drop> From<AllocFailed<T>> for LoadStop {
     ghost from_gives = { λ _ stop. stop ≡ Memory };
 
     fn from(_: AllocFailed<T>) -> Self {
-        Stop::Memory
+        LoadStop::Memory
     }
 }

@@ -10,7 +10,7 @@ ghost use Rattle.feed_run.specs.Headline.{IsWritten};
 
 use crate::fault_records::{refusal_record, refusal_status, unread_record};
 use crate::fields::Fields;
-use crate::refusal::Stop;
+use crate::refusal::LoadStop;
 use std::alloc::{AllocError, Global};
 use tick_io::Sink;
 use tick_model::items::Items;
@@ -82,14 +82,14 @@ pub(crate) fn report_all<S: Sink>(
 }
 
 /// Reports why there is no run.
-pub(crate) fn report_stop<S: Sink>(alloc: Global, out: &mut S, stop: &Stop) -> u8
+pub(crate) fn report_stop<S: Sink>(alloc: Global, out: &mut S, stop: &LoadStop) -> u8
     ensures ends { EndsByStop stop.now (Rose (S.failures out.old) (S.failures out.new)) (S.bytes out.old) (S.bytes out.new) result }
     ensures steady { IsWritten result → S.failures out.new ≡ S.failures out.old }
 {
     match stop {
-        Stop::Memory => 1,
-        Stop::Unread(name) => report(alloc, out, 3, unread_record(alloc, name.as_str())),
-        Stop::Refused(refusal) => report(
+        LoadStop::Memory => 1,
+        LoadStop::Unread(name) => report(alloc, out, 3, unread_record(alloc, name.as_str())),
+        LoadStop::Refused(refusal) => report(
             alloc,
             out,
             refusal_status(refusal),

@@ -15,7 +15,7 @@ use crate::fault_records::{
     batch_record, done_record, kept_record, node_record, publication_record,
 };
 use crate::readings::{load_feed, load_script};
-use crate::refusal::Stop;
+use crate::refusal::LoadStop;
 use crate::reports::report;
 use crate::tables::load_tables;
 use feed_reader::{RawTable, assemble};
@@ -43,7 +43,7 @@ fn read_feed_run<I: Inputs>(
     script: Script,
     tables: Items<RawTable>,
     feed_name: &str,
-) -> Result<Run, Stop>
+) -> Result<Run, LoadStop>
     requires script { (bytes : List ℕ) × (script_in bytes ≡ Ok (plain_script script)) }
     requires tables { AreTablesOf (sources_of script.plan.nodes) tables }
     ensures reads { Reads I.told (LoadFailed I.failures inputs.old inputs.new) (IsOneOf (feed_name.now ∷ []))
@@ -67,7 +67,7 @@ pub(crate) fn read_plan_run<I: Inputs>(
     inputs: &mut I,
     script: Script,
     feed_name: &str,
-) -> Result<Run, Stop>
+) -> Result<Run, LoadStop>
     requires { (bytes : List ℕ) × (script_in bytes ≡ Ok (plain_script script)) }
     ensures reads { Reads I.told (LoadFailed I.failures inputs.old inputs.new)
         (IsOneOf (plan_read (I.content inputs.old) (plain_script script) feed_name.now))
@@ -96,7 +96,7 @@ pub fn read_run<I: Inputs>(
     inputs: &mut I,
     script_name: &str,
     feed_name: &str,
-) -> Result<Run, Stop>
+) -> Result<Run, LoadStop>
     ensures reads { Reads I.told (LoadFailed I.failures inputs.old inputs.new)
         (IsOneOf (files_read (I.content inputs.old) script_name.now feed_name.now))
         (run_found (I.content inputs.old) script_name.now feed_name.now) plain_run result }

@@ -10,7 +10,7 @@ ghost use Rattle.feed_run.specs.Readings.{first_file, no_rows as no_rows_at_all,
 ghost use Rattle.feed_run.specs.Stops.{Asks, OnFound, Reads};
 
 use crate::readings::load_table;
-use crate::refusal::Stop;
+use crate::refusal::LoadStop;
 use feed_reader::{RawRows, RawTable};
 use script_reader::script::SourceFile;
 use std::alloc::{AllocError, Global};
@@ -33,7 +33,7 @@ fn opening<I: Inputs>(
     inputs: &mut I,
     source: &Node,
     files: &[SourceFile],
-) -> Result<RawTable, Stop>
+) -> Result<RawTable, LoadStop>
     ensures reads { Reads I.told (LoadFailed I.failures inputs.old inputs.new) (IsOneOf (option_to_list (first_file files.now)))
         (opening_by (I.content inputs.old) source.now (first_file files.now)) (λ table. table) result }
     ensures table { IfOk result (IsTableOf source.now.columns) }
@@ -80,7 +80,7 @@ fn open_sources<I: Inputs>(
     inputs: &mut I,
     sources: &[&Node],
     files: &[SourceFile],
-) -> Result<Items<RawTable>, Stop>
+) -> Result<Items<RawTable>, LoadStop>
     ensures reads { Reads I.told (LoadFailed I.failures inputs.old inputs.new)
         (IsOneOf (tables_read (I.content inputs.old) (map (λ source. source.now) sources.now) files.now))
         (tables_found (I.content inputs.old) (map (λ source. source.now) sources.now) files.now) (λ tables. tables) result }
@@ -106,7 +106,7 @@ pub(crate) fn load_tables<I: Inputs>(
     inputs: &mut I,
     nodes: &[Node],
     files: &[SourceFile],
-) -> Result<Items<RawTable>, Stop>
+) -> Result<Items<RawTable>, LoadStop>
     ensures reads { Reads I.told (LoadFailed I.failures inputs.old inputs.new)
         (IsOneOf (tables_read (I.content inputs.old) (sources_of nodes.now) files.now))
         (tables_found (I.content inputs.old) (sources_of nodes.now) files.now) (λ tables. tables) result }

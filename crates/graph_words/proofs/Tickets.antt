@@ -4,7 +4,7 @@ use mathlib.Core.Logic.{dite}
 use mathlib.Core.Option.{some, some-injective}
 use native.Mathlib.Decide.{ℕ_discrete}
 use lib.ListN.{get_elem?}
-use Rattle.graph_words.{specs.declared.graph.Edge.Edge, specs.declared.graph.Plan.Plan, specs.declared.table.Mark.TheVariants.Unmarked, specs.Marks.when, specs.Rule.{Tickets, TicketsOk, late_mark, ticket_mark, tickets_below}, proofs.Marks.{upd, upd_at, upd_else, upd_cases}}
+use Rattle.graph_words.{specs.declared.graph.Edge.Edge, specs.declared.graph.ClaimPlan.ClaimPlan, specs.declared.table.Mark.TheVariants.Unmarked, specs.Marks.when, specs.Rule.{Tickets, TicketsOk, late_mark, ticket_mark, tickets_below}, proofs.Marks.{upd, upd_at, upd_else, upd_cases}}
 
 pub not_both : {A : Type 0} (b : Bool) → b ≡ false → b ≡ true → A
 not_both b e f = absurd cc
@@ -71,7 +71,7 @@ tickets_all f (suc n) on =
 abbrev pub drawn_for : Tickets → ℕ → ℕ → Bool → Tickets
 drawn_for t q k b = record { ticket = upd t.ticket k q; told = upd t.told k b; holder = upd t.holder q k; late = t.late }
 
-module _ {W : Type 0} (key : Plan W) where
+module _ {W : Type 0} (key : ClaimPlan W) where
   abbrev E : List Edge
   E = key.edges.items
 

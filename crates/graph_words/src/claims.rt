@@ -1,8 +1,8 @@
 //! The claims of one step, and the seats that workers step with.
 
-use crate::graph::{Edge, Plan, Tagged};
+use crate::graph::{ClaimPlan, Edge, Tagged};
 use crate::plays::ClaimRule;
-use crate::table::{Slot, View};
+use crate::table::{SeatView, Slot};
 use atomic_table::{Seat, Table};
 use std::alloc::Global;
 use std::marker::Model;
@@ -16,7 +16,7 @@ pub struct Claims<W: Tagged, H: Tagged> {
     /// and for the tickets.
     pub(crate) inputs: Vec<u64>,
     pub(crate) alloc: Global,
-    pub(crate) table: Table<Slot<W, H>, View<W>, Plan<W>, ClaimRule, Global>,
+    pub(crate) table: Table<Slot<W, H>, SeatView<W>, ClaimPlan<W>, ClaimRule, Global>,
 }
 
 impl<W: Tagged, H: Tagged> Model for Claims<W, H> {
@@ -32,7 +32,7 @@ impl<W: Tagged, H: Tagged> Model for Claims<W, H> {
 /// A seat: a worker's token, which has no bytes. It may work the nodes that it has. Contracts see what it knows.
 #[derive(Drop)]
 pub struct ClaimSeat<W, H> {
-    pub(crate) seat: Seat<Slot<W, H>, View<W>>,
+    pub(crate) seat: Seat<Slot<W, H>, SeatView<W>>,
 }
 
 impl<W, H> Model for ClaimSeat<W, H> {

@@ -31,7 +31,7 @@ pub trait Tagged: Send + Drop {
 /// What claims are made for: a graph and the works that were given, in order of the nodes. The first work's run and step are
 /// those of all works, and the step of the claims is the one after it.
 #[derive(Drop)]
-pub struct Plan<W> {
+pub struct ClaimPlan<W> {
     pub first: Snapshot<W>,
     pub works: Snapshot<Vec<W>>,
     pub nodes: u32,

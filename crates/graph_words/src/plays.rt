@@ -2,15 +2,15 @@
 
 ghost use Rattle.std.specs.Prelude.{Bool};
 
-use crate::graph::{Plan, Tagged};
-use crate::table::{Slot, View};
+use crate::graph::{ClaimPlan, Tagged};
+use crate::table::{SeatView, Slot};
 use atomic_table::{Join, Play, Split, TableRule};
 use std::marker::PhantomData;
 
 /// The rule that the table keeps.
 pub struct ClaimRule;
 
-impl<W: Tagged, H: Tagged> TableRule<Slot<W, H>, View<W>, Plan<W>> for ClaimRule {
+impl<W: Tagged, H: Tagged> TableRule<Slot<W, H>, SeatView<W>, ClaimPlan<W>> for ClaimRule {
     ghost use Rattle.graph_words.specs.Rule.{KeepsRule, tags};
     ghost use Rattle.graph_words.specs.Views.{first_view};
 
@@ -22,7 +22,7 @@ impl<W: Tagged, H: Tagged> TableRule<Slot<W, H>, View<W>, Plan<W>> for ClaimRule
 /// Lays the slot of a node down, whose work was taken.
 pub struct LayTaken;
 
-impl<W, H> Play<Slot<W, H>, View<W>> for LayTaken {
+impl<W, H> Play<Slot<W, H>, SeatView<W>> for LayTaken {
     ghost use Rattle.graph_words.specs.Plays.{lays_work};
     ghost use Rattle.graph_words.specs.declared.table.Mark.TheVariants.{Taken};
 
@@ -32,7 +32,7 @@ impl<W, H> Play<Slot<W, H>, View<W>> for LayTaken {
 /// Lays the slot of a node down, whose work was put back.
 pub struct LayBack;
 
-impl<W, H> Play<Slot<W, H>, View<W>> for LayBack {
+impl<W, H> Play<Slot<W, H>, SeatView<W>> for LayBack {
     ghost use Rattle.graph_words.specs.Plays.{lays_work};
     ghost use Rattle.graph_words.specs.declared.table.Mark.TheVariants.{PutBack};
 
@@ -67,7 +67,7 @@ pub struct Draw<T> {
     marker: PhantomData<T>,
 }
 
-impl<W, H, T: Telling> Play<Slot<W, H>, View<W>> for Draw<T> {
+impl<W, H, T: Telling> Play<Slot<W, H>, SeatView<W>> for Draw<T> {
     ghost use Rattle.graph_words.specs.Plays.{draws};
 
     ghost then = { draws T.told };
@@ -76,7 +76,7 @@ impl<W, H, T: Telling> Play<Slot<W, H>, View<W>> for Draw<T> {
 /// Lifts the empty slot of a node.
 pub struct LiftEmpty;
 
-impl<W, H> Play<Slot<W, H>, View<W>> for LiftEmpty {
+impl<W, H> Play<Slot<W, H>, SeatView<W>> for LiftEmpty {
     ghost use Rattle.graph_words.specs.Plays.{lifts_empty};
 
     ghost then = { lifts_empty };
@@ -85,7 +85,7 @@ impl<W, H> Play<Slot<W, H>, View<W>> for LiftEmpty {
 /// Lifts the slot of an edge, to be delivered.
 pub struct LiftOut;
 
-impl<W, H> Play<Slot<W, H>, View<W>> for LiftOut {
+impl<W, H> Play<Slot<W, H>, SeatView<W>> for LiftOut {
     ghost use Rattle.graph_words.specs.Plays.{lifts_out};
 
     ghost then = { lifts_out };
@@ -94,7 +94,7 @@ impl<W, H> Play<Slot<W, H>, View<W>> for LiftOut {
 /// Marks an edge as one that is handed on after its `from` node had its ticket.
 pub struct HandOn;
 
-impl<W, H> Play<Slot<W, H>, View<W>> for HandOn {
+impl<W, H> Play<Slot<W, H>, SeatView<W>> for HandOn {
     ghost use Rattle.graph_words.specs.Plays.{hands_on};
 
     ghost then = { hands_on };
@@ -103,7 +103,7 @@ impl<W, H> Play<Slot<W, H>, View<W>> for HandOn {
 /// Lays the slot of an edge down, delivered.
 pub struct Deliver;
 
-impl<W, H> Play<Slot<W, H>, View<W>> for Deliver {
+impl<W, H> Play<Slot<W, H>, SeatView<W>> for Deliver {
     ghost use Rattle.graph_words.specs.Plays.{delivers};
 
     ghost then = { delivers };
@@ -112,7 +112,7 @@ impl<W, H> Play<Slot<W, H>, View<W>> for Deliver {
 /// Lays the slot of an edge down, whose share was taken.
 pub struct LayIn;
 
-impl<W, H> Play<Slot<W, H>, View<W>> for LayIn {
+impl<W, H> Play<Slot<W, H>, SeatView<W>> for LayIn {
     ghost use Rattle.graph_words.specs.Plays.{lays_in};
 
     ghost then = { lays_in };
@@ -121,7 +121,7 @@ impl<W, H> Play<Slot<W, H>, View<W>> for LayIn {
 /// Puts a node on offer.
 pub struct Offer;
 
-impl<W, H> Play<Slot<W, H>, View<W>> for Offer {
+impl<W, H> Play<Slot<W, H>, SeatView<W>> for Offer {
     ghost use Rattle.graph_words.specs.Plays.{offers};
 
     ghost then = { offers };
@@ -130,7 +130,7 @@ impl<W, H> Play<Slot<W, H>, View<W>> for Offer {
 /// Reads whether a node is on offer.
 pub struct Peek;
 
-impl<W, H> Play<Slot<W, H>, View<W>> for Peek {
+impl<W, H> Play<Slot<W, H>, SeatView<W>> for Peek {
     ghost use Rattle.graph_words.specs.Plays.{peeks};
 
     ghost then = { peeks };
@@ -139,7 +139,7 @@ impl<W, H> Play<Slot<W, H>, View<W>> for Peek {
 /// Takes a node that is on offer.
 pub struct Accept;
 
-impl<W, H> Play<Slot<W, H>, View<W>> for Accept {
+impl<W, H> Play<Slot<W, H>, SeatView<W>> for Accept {
     ghost use Rattle.graph_words.specs.Plays.{accepts};
 
     ghost then = { accepts };
@@ -148,7 +148,7 @@ impl<W, H> Play<Slot<W, H>, View<W>> for Accept {
 /// Lifts the slot of a node with its work.
 pub struct LiftWork;
 
-impl<W: Tagged, H: Tagged> Play<Slot<W, H>, View<W>> for LiftWork {
+impl<W: Tagged, H: Tagged> Play<Slot<W, H>, SeatView<W>> for LiftWork {
     ghost use Rattle.graph_words.specs.Rule.{tags};
     ghost use Rattle.graph_words.specs.Plays.{lifts_work};
 
@@ -158,7 +158,7 @@ impl<W: Tagged, H: Tagged> Play<Slot<W, H>, View<W>> for LiftWork {
 /// Lifts the slot of an edge with its share.
 pub struct LiftIn;
 
-impl<W: Tagged, H: Tagged> Play<Slot<W, H>, View<W>> for LiftIn {
+impl<W: Tagged, H: Tagged> Play<Slot<W, H>, SeatView<W>> for LiftIn {
     ghost use Rattle.graph_words.specs.Rule.{tags};
     ghost use Rattle.graph_words.specs.Plays.{lifts_in};
 
@@ -168,7 +168,7 @@ impl<W: Tagged, H: Tagged> Play<Slot<W, H>, View<W>> for LiftIn {
 /// Tells how a seat's marks stand to the edges, and that the rule holds.
 pub struct Look;
 
-impl<W: Tagged, H: Tagged> Play<Slot<W, H>, View<W>> for Look {
+impl<W: Tagged, H: Tagged> Play<Slot<W, H>, SeatView<W>> for Look {
     ghost use Rattle.graph_words.specs.Rule.{tags};
     ghost use Rattle.graph_words.specs.Plays.{looks};
 
@@ -176,9 +176,9 @@ impl<W: Tagged, H: Tagged> Play<Slot<W, H>, View<W>> for Look {
 }
 
 /// How a view is split, and how two are joined.
-pub struct Parting;
+pub struct GraphSplit;
 
-impl<W> Split<View<W>> for Parting {
+impl<W> Split<SeatView<W>> for GraphSplit {
     ghost use Rattle.graph_words.specs.Views.{less_one, one_part};
 
     ghost left = { λ v. less_one v };
@@ -186,7 +186,7 @@ impl<W> Split<View<W>> for Parting {
     ghost right = { λ v. one_part v };
 }
 
-impl<W> Join<View<W>> for Parting {
+impl<W> Join<SeatView<W>> for GraphSplit {
     ghost use Rattle.graph_words.specs.Views.{both_views, spent_view};
 
     ghost both = { λ v w. both_views v w };

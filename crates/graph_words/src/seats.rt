@@ -3,14 +3,14 @@
 ghost use Rattle.std.specs.Prelude.{◌≡◌, ◌<◌, ℕ};
 ghost use Rattle.atomic_table.specs.Table.{Seen, State};
 ghost use Rattle.graph_words.specs.declared.table.Slot.{Slot};
-ghost use Rattle.graph_words.specs.declared.table.View.{View};
+ghost use Rattle.graph_words.specs.declared.table.SeatView.{SeatView};
 ghost use Rattle.graph_words.specs.Views.{less_one, one_part, both_views};
 ghost use Rattle.graph_words.specs.Seats.{IsLateByFrom, IsMarkedByFrom, IsSeatOf, IsUpward};
 
 use crate::claims::{ClaimSeat, Claims};
-use crate::graph::{Plan, Tagged};
-use crate::plays::{ClaimRule, Look, Parting};
-use crate::table::{Slot, View};
+use crate::graph::{ClaimPlan, Tagged};
+use crate::plays::{ClaimRule, GraphSplit, Look};
+use crate::table::{SeatView, Slot};
 use atomic_table::TableRule;
 
 impl<W: Tagged, H: Tagged> Claims<W, H> {
@@ -22,7 +22,7 @@ impl<W: Tagged, H: Tagged> Claims<W, H> {
         ensures upward { IsUpward self.now.plan }
         ensures marks { IsMarkedByFrom self.now.plan seat.old.view }
         ensures late { IsLateByFrom self.now.plan seat.old.view }
-        ensures met { (id : ℕ) × (s : State (Slot W H) (View W)) × Seen (⟦<ClaimRule as TableRule<Slot<W, H>, View<W>, Plan<W>>>⟧.holds self.now.plan) id seat.old.view s }
+        ensures met { (id : ℕ) × (s : State (Slot W H) (SeatView W)) × Seen (⟦<ClaimRule as TableRule<Slot<W, H>, SeatView<W>, ClaimPlan<W>>>⟧.holds self.now.plan) id seat.old.view s }
     {
         self.table.shared.load::<Look>(&mut seat.seat, 0);
     }
@@ -34,7 +34,7 @@ impl<W: Tagged, H: Tagged> Claims<W, H> {
         ensures old { IsSeatOf self.now seat.new × (seat.new.view ≡ less_one seat.old.view) }
         ensures new { IsSeatOf self.now result × (result.view ≡ one_part seat.old.view) }
     {
-        let other = self.table.shared.split_seat::<Parting>(&mut seat.seat);
+        let other = self.table.shared.split_seat::<GraphSplit>(&mut seat.seat);
         ClaimSeat { seat: other }
     }
 
@@ -48,6 +48,6 @@ impl<W: Tagged, H: Tagged> Claims<W, H> {
         let ClaimSeat { seat: other } = other;
         self.table
             .shared
-            .join_seat::<Parting>(&mut seat.seat, other);
+            .join_seat::<GraphSplit>(&mut seat.seat, other);
     }
 }

@@ -12,7 +12,7 @@ ghost use Rattle.graph_words.specs.Views.{first_view};
 ghost use Rattle.graph_words.specs.Seats.{IsSeatOf};
 
 use crate::claims::{ClaimSeat, Claims};
-use crate::graph::{Edge, Plan, Tagged};
+use crate::graph::{ClaimPlan, Edge, Tagged};
 use crate::table::Slot;
 use atomic_table::Table;
 use std::alloc::{AllocError, Global};
@@ -73,7 +73,7 @@ impl<W: Tagged, H: Tagged> Claims<W, H> {
         let works = Snapshot::of(&work);
         let words = count_inputs(alloc, edges.as_slice(), nodes)?;
         let slots = lay_slots(alloc, work, edges.len())?;
-        let plan = Plan {
+        let plan = ClaimPlan {
             first,
             works,
             nodes,
@@ -82,7 +82,7 @@ impl<W: Tagged, H: Tagged> Claims<W, H> {
         let Ok((table, seat)) = Table::new(alloc, words.as_slice(), slots, &plan) else {
             return Err(AllocError);
         };
-        let Plan {
+        let ClaimPlan {
             first: _,
             works: _,
             nodes,

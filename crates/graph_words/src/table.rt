@@ -1,6 +1,6 @@
 //! What the table behind the claims has: its slots, and what each seat knows.
 
-use crate::graph::Plan;
+use crate::graph::ClaimPlan;
 use std::collections::LinkedList;
 
 /// What a slot has.
@@ -35,8 +35,8 @@ pub enum Mark {
 /// What a seat knows: the plan, its parts, and its marks of the nodes, of the edges as output edges, of those that it handed
 /// on after it had put the node's work back, and of the edges as input edges, and the tickets that it was told. No value of it
 /// is made.
-pub struct View<W> {
-    pub plan: Option<Plan<W>>,
+pub struct SeatView<W> {
+    pub plan: Option<ClaimPlan<W>>,
     pub parts: u64,
     pub nodes: LinkedList<Mark>,
     pub outs: LinkedList<Mark>,

@@ -10,15 +10,9 @@ use crate::edges::end_without;
 use crate::end::End;
 use crate::places::staying_before;
 use row_set::RowSet;
+use shown_rows::Crossing;
 use std::alloc::AllocError;
 use tick_table::TickTable;
-
-/// The old keys of the rows that are shown no more, and the new keys of those that were not shown before.
-#[derive(Drop)]
-pub(crate) struct Crossing {
-    pub leaving: RowSet,
-    pub coming: RowSet,
-}
 
 /// The rows that leave the `count` rows at an end, and those that come to them.
 pub(crate) fn crossing_at(end: End, input: &TickTable, count: u64) -> Result<Crossing, AllocError>

@@ -1,6 +1,6 @@
--- Tests joined by and, or and not, and tests of numbers.
-use Rattle.std.proofs.Common.{◌≡◌, refl, ap, sym, ◌∙◌, Bool, true, false, cond, not, ◌&&◌, ◌||◌, ◌==◌, ℕ, arith, inl, inr, Less, Equal, Greater}
-use Rattle.std.{specs.Ordering.{is_eq, nat_cmp}, proofs.lemmas.Bool.{cases_eq, cases_lt, eq-eqb, le-ltb, lt-ltb, ne_eqb}}
+-- Tests joined by and, or and not, and tests of numbers and orderings.
+use Rattle.std.proofs.Common.{◌≡◌, refl, ap, sym, ◌∙◌, Bool, true, false, true≢false, cond, not, ◌&&◌, ◌||◌, ◌==◌, ℕ, arith, inl, inr, Less, Equal, Greater}
+use Rattle.std.{specs.Ordering.{is_eq, is_lt, nat_cmp}, specs.declared.cmp.Ordering.Ordering, proofs.lemmas.Bool.{cases_eq, cases_lt, eq-eqb, le-ltb, lt-ltb, ne_eqb}}
 
 pub or_false : (a : Bool) → (a || false) ≡ a
 or_false true = refl
@@ -64,3 +64,8 @@ is_eq-nat_cmp a b =
         | inr other ↦ ap (λ t. is_eq (cond t Equal Greater)) (ne_eqb a b other) ∙ sym (ne_eqb b a (λ e. other (sym e)))
       ])
     ]
+
+pub less_from : (o : Ordering) → is_lt o ≡ true → o ≡ Less
+less_from Less e = refl
+less_from Equal e = absurd (true≢false (sym e))
+less_from Greater e = absurd (true≢false (sym e))

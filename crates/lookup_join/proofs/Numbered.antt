@@ -2,7 +2,7 @@
 use Rattle.std.proofs.Common.{◌≡◌, refl, ap, ap₂, sym, ◌∙◌, subst, Bool, true, false, cond, ◌&&◌, ◌==◌, ℕ, zero, suc, ◌+◌, ◌<◌, arith, List, [], ◌∷◌, ◌++◌, map, filter, length, length-append, append_assoc, Option, Some, None, ℤ, pos}
 use Rattle.std.{specs.Prelude.{find, int_le, int_lt, option_map, slice_get, slice_index_or, IfSome}, specs.List.{AllByRecursion, range_with_len}, proofs.lemmas.Bool.lt-ltb, proofs.lemmas.List.{length-map, map-append}, proofs.lemmas.Option.{none-some, slice_get-map, same_Some}}
 use Rattle.key_lists.{proofs.Every.{every_unmapped, every_weaker, every-filter, filter-map, map_map}, proofs.Among.among_above, proofs.Ranges.{range_last, range_below}}
-use Rattle.lookup_join.{specs.declared.pick.Pick.TheVariants.Last, specs.Latest.{latest_by, match_of, next_time}, specs.Notes.{IsNumbered, Note, next_after, note_of, noted_of, notes_of}, specs.declared.latest.Found.Found, specs.declared.notes.Noted.Noted, proofs.Brought.none_under, proofs.Spans.{latest_every, latest-map}, proofs.Walks.get_index}
+use Rattle.lookup_join.{specs.declared.pick.Pick.TheVariants.Last, specs.Latest.{latest_by, match_of, next_time}, specs.Notes.{IsNumbered, Note, next_after, note_of, noted_of, notes_of}, specs.declared.latest.Found.Found, specs.declared.notes.PriorMatch.PriorMatch, proofs.Brought.none_under, proofs.Spans.{latest_every, latest-map}, proofs.Walks.get_index}
 use Rattle.row_groups.specs.Members.{Member, by_at, group_of, keys_of, member_of, member_under, placed, with_member}
 use Rattle.tick_model.specs.Tables.{same_cells}
 
@@ -78,10 +78,10 @@ index_any (first ∷ before) zero other another h = refl
 index_any (first ∷ before) (suc n) other another h = index_any before n other another (omega arith)
 
 pub found_noted : (before : List (Option ℕ)) (o : Option Member) (found : Found) (noted : Option ℕ) → noted ≡ slice_index_or before found.key noted → IfSome o (λ (member : Member). member.key < length before) → option_map found_of o ≡ Some found
-    → (let own : Noted = record { at = found.at; before = noted } in Some own) ≡ option_map noted_of (option_map (note_by before) o)
+    → (let own : PriorMatch = record { at = found.at; before = noted } in Some own) ≡ option_map noted_of (option_map (note_by before) o)
 found_noted before None found noted is h e = absurd (none-some found e)
 found_noted before (Some member) found noted is h e =
-    ap₂ (λ at before. let own : Noted = record { at = at; before = before } in Some own) (sym (ap (λ (found : Found). found.at) (same_Some _ _ e)))
+    ap₂ (λ at before. let own : PriorMatch = record { at = at; before = before } in Some own) (sym (ap (λ (found : Found). found.at) (same_Some _ _ e)))
     (is ∙ ap (λ (found : Found). slice_index_or before found.key noted) (sym (same_Some _ _ e)) ∙ index_any before member.key noted None h)
 
 -- the member under a number

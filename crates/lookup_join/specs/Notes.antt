@@ -6,7 +6,7 @@
 --     notes_of members before      the notes whose key cells and times are those of members
 --     IsNumbered members before      the members are numbered as what is noted of them
 use Rattle.std.{specs.Prelude.{◌≡◌, ℕ, Bool, false, ◌&&◌, List, [], ◌∷◌, ◌++◌, Option, Some, None, filter, fold, int_le, length, map, option_map, unwrap_or, ℤ, pos, if◌then◌else◌}, specs.List.range_with_len, specs.Ordering.int_eq}
-use Rattle.lookup_join.{specs.declared.notes.Noted.Noted, specs.declared.pick.Pick.Pick, specs.declared.pick.Pick.TheVariants.Last, specs.Latest.{latest_by, match_of, next_time}}
+use Rattle.lookup_join.{specs.declared.notes.PriorMatch.PriorMatch, specs.declared.pick.Pick.Pick, specs.declared.pick.Pick.TheVariants.Last, specs.Latest.{latest_by, match_of, next_time}}
 use Rattle.row_groups.specs.Members.{Member, keys_of, member_of, member_under}
 use Rattle.tick_model.specs.Tables.{same_cells}
 
@@ -28,7 +28,7 @@ pub record NoteList : Type 0 where
 abbrev pub note_of : List ℤ → ℤ → List Note → Option Note
 note_of cells at notes = latest_by Last (λ note. note.at) (filter (λ note. same_cells cells note.cells && int_le note.at at) notes)
 
-abbrev pub noted_of : Note → Noted
+abbrev pub noted_of : Note → PriorMatch
 noted_of note = record { at = note.at; before = note.before }
 
 -- the first time after this one of a note of these key cells

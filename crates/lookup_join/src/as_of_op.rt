@@ -6,7 +6,7 @@ ghost use Rattle.lookup_join.specs.Matcher.{Stands, matched_ticks, matcher_of, s
 ghost use Rattle.tick_model.specs.Changes.{change_of};
 ghost use Rattle.tick_table.specs.Exact.{IsExact, counted, tick_of};
 
-use crate::lookup::{Outcome, lookup_step};
+use crate::lookup::{LookupResult, lookup_step};
 use crate::pick::Pick;
 use row_groups::NumberedGroups;
 use std::alloc::{AllocError, Global};
@@ -113,7 +113,7 @@ impl AsOfOp {
             right: mut right_rows,
             mut buffer,
         } = self;
-        let Outcome {
+        let LookupResult {
             change,
             notes: _,
             came: _,

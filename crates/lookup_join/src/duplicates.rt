@@ -6,7 +6,7 @@ ghost use Rattle.key_lists.specs.Keys.{is_among};
 ghost use Rattle.lookup_join.specs.Duplicates.{cells_under, earlier, faulty_group, least_fault};
 ghost use Rattle.row_groups.specs.Members.{keys_of};
 
-use crate::notes::Notes;
+use crate::notes::PriorMatches;
 use row_groups::NumberedGroups;
 use row_set::RowSet;
 
@@ -52,7 +52,7 @@ fn earlier_of(one: Option<Duplicate>, other: Option<Duplicate>) -> Option<Duplic
 fn noted_duplicate(
     left: &NumberedGroups,
     right: &NumberedGroups,
-    notes: &Notes,
+    notes: &PriorMatches,
 ) -> Option<Duplicate>
     ensures { result ≡ least_fault left.now.members right.now.members None (map (λ note. note.cells) notes.now.notes) }
 {
@@ -69,7 +69,7 @@ fn noted_duplicate(
 pub(crate) fn first_duplicate(
     left: &NumberedGroups,
     right: &NumberedGroups,
-    notes: &Notes,
+    notes: &PriorMatches,
     came: &RowSet,
 ) -> Option<Duplicate>
     requires { AllByRecursion (λ key. is_among key (keys_of left.now.members) ≡ true) came.now }

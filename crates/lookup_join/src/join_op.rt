@@ -11,8 +11,8 @@ ghost use Rattle.tick_model.specs.Join.{join_fault};
 ghost use Rattle.tick_table.specs.Exact.{IsExact, counted, tick_of};
 
 use crate::duplicates::{Duplicate, first_duplicate};
-use crate::lookup::{Outcome, lookup_step};
-use crate::notes::Notes;
+use crate::lookup::{LookupResult, lookup_step};
+use crate::notes::PriorMatches;
 use crate::pick::Pick;
 use row_groups::NumberedGroups;
 use row_set::RowSet;
@@ -144,7 +144,7 @@ impl JoinOp {
             right: mut right_rows,
             mut buffer,
         } = self;
-        let Outcome {
+        let LookupResult {
             change,
             notes,
             came,
@@ -188,7 +188,7 @@ fn fault_now(
     choice: Choice,
     left: &NumberedGroups,
     right: &NumberedGroups,
-    notes: &Notes,
+    notes: &PriorMatches,
     came: &RowSet,
 ) -> Option<Duplicate>
     requires { AllByRecursion (λ key. is_among key (keys_of left.now.members) ≡ true) came.now }

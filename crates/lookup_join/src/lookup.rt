@@ -13,7 +13,7 @@ ghost use Rattle.tick_model.specs.Updates.{between, new_keys};
 ghost use Rattle.tick_table.specs.Exact.{IsExact, counted, tick_of};
 
 use crate::keyed::{Side, bring_on, rekeyed};
-use crate::notes::{Notes, touched_places};
+use crate::notes::{PriorMatches, touched_places};
 use crate::pick::Pick;
 use crate::rows::MatchedRows;
 use crate::turned::turned_rows;
@@ -28,10 +28,10 @@ use tick_table::{Change, Steps, TickTable};
 
 /// What a step comes to.
 #[derive(Drop)]
-pub(crate) struct Outcome {
+pub(crate) struct LookupResult {
     pub change: Change,
     /// What was taken before at the places that the step touches.
-    pub notes: Notes,
+    pub notes: PriorMatches,
     /// The left rows that are new in their places.
     pub came: RowSet,
 }
@@ -48,7 +48,7 @@ pub(crate) fn lookup_step<L: Ledger>(
     right: &TickTable,
     buffer: &mut Vec<i64>,
     reads: &mut Steps<L>,
-) -> Result<Outcome, AllocError>
+) -> Result<LookupResult, AllocError>
     requires left_exact { IsExact left.now }
     requires right_exact { IsExact right.now }
     requires few { left.now.new.width + length take.now ≤ 32 }
@@ -76,7 +76,7 @@ pub(crate) fn lookup_step<L: Ledger>(
         notes: &notes,
     };
     let change = matched_change(alloc, &rows, left_rows, reads)?;
-    Ok(Outcome {
+    Ok(LookupResult {
         change,
         notes,
         came,
@@ -93,7 +93,7 @@ fn bring_right_on<L: Ledger>(
     right: &TickTable,
     buffer: &mut Vec<i64>,
     reads: &mut Steps<L>,
-) -> Result<Notes, AllocError>
+) -> Result<PriorMatches, AllocError>
     requires exact { IsExact right.now }
     requires index { groups_of index.old ≡ indexed Side.Right on.now pick right.now.old.rows }
     ensures index { OnOk result (groups_of index.new ≡ indexed Side.Right on.now pick right.now.new.rows) }

@@ -25,7 +25,7 @@ use tick_table::{RowReader, Steps, TickTable, Version};
 
 /// What is noted of a place, and its time.
 #[derive(Clone, Copy, PartialEq, Eq)]
-pub(crate) struct Noted {
+pub(crate) struct PriorMatch {
     pub at: i64,
     /// The old key of the right row that was taken, if there was one.
     pub before: Option<u64>,
@@ -33,14 +33,14 @@ pub(crate) struct Noted {
 
 /// The right row that was taken before a step at each noted place. A contract sees the list of the notes.
 #[derive(Drop)]
-pub(crate) struct Notes {
+pub(crate) struct PriorMatches {
     /// The key cells and times of the notes, each under its number.
     numbers: NumberedGroups,
     /// The old key of the right row that was taken, if there was one.
     before: Vec<Option<u64>>,
 }
 
-impl Model for Notes {
+impl Model for PriorMatches {
     ghost use Rattle.lookup_join.specs.Notes.{IsNumbered, NoteList, notes_of};
 
     ghost Value = { NoteList };
@@ -50,12 +50,12 @@ impl Model for Notes {
     ghost invariant = { λ notes. IsNumbered notes.numbers.members notes.before.items };
 }
 
-impl Notes {
+impl PriorMatches {
     /// No notes, of groups with so many key cells.
-    pub fn new(alloc: Global, width: usize) -> Notes
+    pub fn new(alloc: Global, width: usize) -> PriorMatches
         ensures { result ≡ record { width = width; notes = [] } }
     {
-        Notes {
+        PriorMatches {
             numbers: NumberedGroups::new(alloc, width),
             before: Vec::new(alloc),
         }
@@ -69,11 +69,11 @@ impl Notes {
     }
 
     /// The latest note of a group at a time.
-    pub fn of(&self, cells: &[i64], at: i64) -> Option<Noted>
+    pub fn of(&self, cells: &[i64], at: i64) -> Option<PriorMatch>
         ensures { result ≡ option_map noted_of (note_of cells.now at self.now.notes) }
     {
         let found = last_until(&self.numbers, cells, at)?;
-        Some(Noted {
+        Some(PriorMatch {
             at: found.at,
             before: self.before[found.key as usize],
         })
@@ -170,7 +170,7 @@ fn note_removed(
     pick: Pick,
     index: &NumberedGroups,
     removed: &RowSet,
-    notes: &mut Notes,
+    notes: &mut PriorMatches,
 ) -> Result<(), AllocError>
     requires here { AllByRecursion (λ key. IsSome (member_under key index.now.members)) removed.now }
     requires width { notes.old.width ≡ index.now.width }
@@ -190,7 +190,7 @@ fn note_modified<L: Ledger>(
     index: &NumberedGroups,
     right: &TickTable,
     modified: &KeyPairs,
-    notes: &mut Notes,
+    notes: &mut PriorMatches,
     buffer: &mut Vec<i64>,
     reads: &mut Steps<L>,
 ) -> Result<(), AllocError>
@@ -220,7 +220,7 @@ fn note_added<L: Ledger>(
     pick: Pick,
     index: &NumberedGroups,
     right: &TickTable,
-    notes: &mut Notes,
+    notes: &mut PriorMatches,
     buffer: &mut Vec<i64>,
     reads: &mut Steps<L>,
 ) -> Result<(), AllocError>
@@ -251,14 +251,14 @@ pub(crate) fn touched_places<L: Ledger>(
     modified: &KeyPairs,
     buffer: &mut Vec<i64>,
     reads: &mut Steps<L>,
-) -> Result<Notes, AllocError>
+) -> Result<PriorMatches, AllocError>
     requires index { groups_of index.now ≡ indexed Side.Right on.now pick right.now.old.rows }
     requires exact { IsExact right.now }
     requires modified { modified.now ≡ modified_pairs right.now }
     ensures notes { IfOk result (λ notes. notes ≡ record { width = length on.now; notes = told_notes on.now pick left.now right.now }) }
     ensures reads { reads.new ≤ reads.old + right.now.new.width * (length modified.now + length right.now.update.added) }
 {
-    let mut notes = Notes::new(alloc, on.len());
+    let mut notes = PriorMatches::new(alloc, on.len());
     if left.prev_rows().is_empty() {
         return Ok(notes);
     }

@@ -11,7 +11,7 @@ ghost use Rattle.lookup_join.specs.Taken.{AreMatched, HasRow, match_in, match_no
 use crate::keyed::{Side, put_key_cells, time_from};
 use crate::latest::{latest, latest_key};
 use crate::matches::Match;
-use crate::notes::Notes;
+use crate::notes::PriorMatches;
 use crate::pick::Pick;
 use row_changes::Rows;
 use row_groups::NumberedGroups;
@@ -31,7 +31,7 @@ pub(crate) struct MatchedRows<'a> {
     pub take: &'a [u32],
     /// The right rows of now.
     pub index: &'a NumberedGroups,
-    pub notes: &'a Notes,
+    pub notes: &'a PriorMatches,
 }
 
 impl MatchedRows<'_> {

@@ -8,7 +8,7 @@ ghost use Rattle.row_groups.specs.Members.{group_of, keys_of};
 
 use crate::latest::{earlier, latest_key, next_time};
 use crate::matches::Match;
-use crate::notes::Notes;
+use crate::notes::PriorMatches;
 use crate::pick::Pick;
 use row_groups::{Group, NumberedGroups};
 use std::alloc::{AllocError, Global};
@@ -46,7 +46,7 @@ fn put_keys(
 }
 
 /// Until when a note of a place speaks for left rows.
-fn end_of(index: &NumberedGroups, notes: &Notes, cells: &[i64], at: i64) -> Option<i64>
+fn end_of(index: &NumberedGroups, notes: &PriorMatches, cells: &[i64], at: i64) -> Option<i64>
     ensures { result ≡ end_of_note index.now.members notes.now.notes cells.now at }
 {
     earlier(next_time(index, cells, at), notes.next_time(cells, at))
@@ -60,7 +60,7 @@ pub(crate) fn turned_rows<L: Ledger>(
     left: &NumberedGroups,
     index: &NumberedGroups,
     right: &TickTable,
-    notes: &Notes,
+    notes: &PriorMatches,
     reads: &mut Steps<L>,
 ) -> Result<Vec<u64>, AllocError>
     requires take { AllByRecursion (λ column. column < right.now.new.width) take.now }

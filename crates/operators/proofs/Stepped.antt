@@ -5,7 +5,7 @@ use Rattle.tick_model.{specs.declared.plan.Op.Op, specs.declared.table.PlainTabl
 use Rattle.tick_laws.specs.Operated.{operated}
 use Rattle.tick_table.{specs.Exact.counted, specs.Ticking.Ticking}
 use Rattle.table_operator.{specs.Inputs.{counted_in, tick_in}, specs.Made.{IsMadeOf, Made, own_fault, own_tick, room_for}}
-use Rattle.operators.{specs.declared.running.Running.Running, specs.Inputs.{AreTables, AreTicks}, specs.Operating.made_of}
+use Rattle.operators.{specs.declared.running.AnyOperator.AnyOperator, specs.Inputs.{AreTables, AreTicks}, specs.Operating.made_of}
 
 module _ (op : Op) (made : Made) (is : IsMadeOf op made) (inputs : List Ticking) where
   pub own_tick_is : (tick : ℕ → Tick) → AreTicks op tick inputs → own_tick made inputs ≡ operated op tick
@@ -18,9 +18,9 @@ module _ (op : Op) (made : Made) (is : IsMadeOf op made) (inputs : List Ticking)
   room_is tick those = ap₂ (λ (width : ℕ) (own : Tick). 4 * (sum made.widths + width) * (counted_in inputs + counted (change_of own).update)) (sym is.width) (own_tick_is tick those)
 
 -- what runs is the one of which this is known
-module _ (self running : Running) (is : self ≡ running) (inputs : List Ticking) where
+module _ (self running : AnyOperator) (is : self ≡ running) (inputs : List Ticking) where
   pub as_change : (told : Change) → told ≡ change_of (own_tick (made_of running) inputs) → told ≡ change_of (own_tick (made_of self) inputs)
-  as_change told = subst (λ (running : Running). told ≡ change_of (own_tick (made_of running) inputs)) (sym is)
+  as_change told = subst (λ (running : AnyOperator). told ≡ change_of (own_tick (made_of running) inputs)) (sym is)
 
   pub as_reads : (reads first : ℕ) → reads ≤ first + room_for (made_of running) inputs → reads ≤ first + room_for (made_of self) inputs
-  as_reads reads first = subst (λ (running : Running). reads ≤ first + room_for (made_of running) inputs) (sym is)
+  as_reads reads first = subst (λ (running : AnyOperator). reads ≤ first + room_for (made_of running) inputs) (sym is)

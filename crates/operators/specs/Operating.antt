@@ -13,18 +13,18 @@ use Rattle.lookup_join.specs.Made.{CanJoin, CanMatch, MatchesBoth, StandsForBoth
 use Rattle.merge_op.specs.Made.{CanMerge, merge_made}
 use Rattle.row_ops.specs.Made.{CanFilter, CanView, filter_made, view_made}
 use Rattle.sort_op.specs.Made.{CanSort, HasEntries, sort_made}
-use Rattle.operators.{specs.declared.running.Running.Running, specs.declared.running.Running.TheVariants.{Where, View, Join, Agg, Merge, Sort, Head, Tail, AsOf}}
+use Rattle.operators.{specs.declared.running.AnyOperator.AnyOperator, specs.declared.running.AnyOperator.TheVariants.{Where, View, Join, Agg, Merge, Sort, Head, Tail, AsOf}}
 
 pub record Operating : Type 0 where
   pub op : Op
   pub widths : List ℕ
-  pub kept : Running
+  pub kept : AnyOperator
   pub reads : List ℕ
 
 abbrev pub idled : Operating → Operating
 idled operator = record { op = operator.op; widths = operator.widths; kept = operator.kept; reads = operator.reads ++ 0 ∷ [] }
 
-abbrev pub made_of : Running → Made
+abbrev pub made_of : AnyOperator → Made
 made_of (Where filter) = filter_made filter
 made_of (View view) = view_made view
 made_of (Join join) = join_made join
@@ -35,7 +35,7 @@ made_of (Head head) = made_at First head
 made_of (Tail tail) = made_at Last tail
 made_of (AsOf join) = as_of_made join
 
-abbrev pub KeepsOf : Running → List PlainTable → Type 0
+abbrev pub KeepsOf : AnyOperator → List PlainTable → Type 0
 KeepsOf (Join join) = StandsForBoth join
 KeepsOf (Agg agg) = KeepsFirst agg
 KeepsOf (Sort sort) = HasEntries sort

@@ -15,7 +15,7 @@ ghost use Rattle.tick_table.specs.Exact.{IsExact, counted, tick_of};
 ghost use Rattle.tick_table.specs.Ticking.{no_rows};
 
 use crate::counts::{Counted, Idle, StepCount};
-use crate::running::Running;
+use crate::running::AnyOperator;
 use boxcar::tag::Tag;
 use row_set::RowSet;
 use std::alloc::{AllocError, Global};
@@ -27,21 +27,30 @@ use tick_model::plan::Op;
 use tick_table::{Change, Shared, Steps};
 
 /// An operator of a plan, with what it keeps of its inputs' rows. It stands for the rows that it saw last.
-#[derive(Drop)]
 pub struct Operator {
     /// What it was made of. It takes no bytes.
     op: Snapshot<Op>,
-    running: Running,
+    running: AnyOperator,
     /// How many cells it read in each of its steps. It takes no bytes.
     reads: Tag,
 }
 
 // Written out, so that a crate which lets an operator go does not prove anew how each part of it is let go.
+impl Drop for Operator {
+    fn drop(self) {
+        let Self {
+            op: _,
+            running: _,
+            reads: _,
+        } = self;
+    }
+}
+
 impl Model for Operator {
     ghost use Rattle.std.specs.Coded.{codes};
     ghost use Rattle.operators.specs.Operating.{Operating, made_of};
     ghost use Rattle.table_operator.specs.Made.{IsMadeOf};
-    ghost use Rattle.operators.specs.contracts.running.Running as running_type;
+    ghost use Rattle.operators.specs.contracts.running.AnyOperator as running_type;
     ghost use Rattle.tick_model.specs.contracts.plan.Op as op_type;
 
     ghost Value = { Operating };
@@ -63,7 +72,7 @@ impl Operator {
         ensures stands { IfOk result (λ operator. StandsFor operator (map no_rows widths.now)) }
         ensures steps { IfOk result (λ operator. operator.reads ≡ []) }
     {
-        let running = Running::of(alloc, op, widths)?;
+        let running = AnyOperator::of(alloc, op, widths)?;
         Ok(Operator {
             op: Snapshot::of(op),
             running,

@@ -15,7 +15,7 @@ use tick_table::{Change, Shared, Steps};
 
 /// An operator with what it keeps.
 #[derive(Drop)]
-pub enum Running {
+pub enum AnyOperator {
     Where(RowFilter),
     View(ViewOp),
     Join(JoinOp),
@@ -27,7 +27,7 @@ pub enum Running {
     AsOf(AsOfOp),
 }
 
-impl TableOperator for Running {
+impl TableOperator for AnyOperator {
     ghost use Rattle.operators.specs.Operating.{CanBeMade, KeepsOf, made_of};
 
     ghost made = { made_of };
@@ -36,18 +36,18 @@ impl TableOperator for Running {
 
     ghost can_be = { CanBeMade };
 
-    fn of(alloc: Global, op: &Op, widths: &[u32]) -> Result<Running, AllocError> {
+    fn of(alloc: Global, op: &Op, widths: &[u32]) -> Result<AnyOperator, AllocError> {
         match op {
             Op::Source => unreachable!(),
-            Op::Keep { .. } => Ok(Running::Where(RowFilter::of(alloc, op, widths)?)),
-            Op::View { .. } => Ok(Running::View(ViewOp::of(alloc, op, widths)?)),
-            Op::Join { .. } => Ok(Running::Join(JoinOp::of(alloc, op, widths)?)),
-            Op::Agg { .. } => Ok(Running::Agg(Aggregation::of(alloc, op, widths)?)),
-            Op::Merge { .. } => Ok(Running::Merge(Merge::of(alloc, op, widths)?)),
-            Op::Sort { .. } => Ok(Running::Sort(SortOp::of(alloc, op, widths)?)),
-            Op::Head { .. } => Ok(Running::Head(EndRows::of(alloc, op, widths)?)),
-            Op::Tail { .. } => Ok(Running::Tail(EndRows::of(alloc, op, widths)?)),
-            Op::AsOf { .. } => Ok(Running::AsOf(AsOfOp::of(alloc, op, widths)?)),
+            Op::Keep { .. } => Ok(AnyOperator::Where(RowFilter::of(alloc, op, widths)?)),
+            Op::View { .. } => Ok(AnyOperator::View(ViewOp::of(alloc, op, widths)?)),
+            Op::Join { .. } => Ok(AnyOperator::Join(JoinOp::of(alloc, op, widths)?)),
+            Op::Agg { .. } => Ok(AnyOperator::Agg(Aggregation::of(alloc, op, widths)?)),
+            Op::Merge { .. } => Ok(AnyOperator::Merge(Merge::of(alloc, op, widths)?)),
+            Op::Sort { .. } => Ok(AnyOperator::Sort(SortOp::of(alloc, op, widths)?)),
+            Op::Head { .. } => Ok(AnyOperator::Head(EndRows::of(alloc, op, widths)?)),
+            Op::Tail { .. } => Ok(AnyOperator::Tail(EndRows::of(alloc, op, widths)?)),
+            Op::AsOf { .. } => Ok(AnyOperator::AsOf(AsOfOp::of(alloc, op, widths)?)),
         }
     }
 
@@ -57,43 +57,43 @@ impl TableOperator for Running {
         own: &RowSet,
         inputs: &[Shared],
         reads: &mut Steps<L>,
-    ) -> Result<(Running, Change), StepFault> {
+    ) -> Result<(AnyOperator, Change), StepFault> {
         match self {
-            Running::Where(filter) => {
+            AnyOperator::Where(filter) => {
                 let (filter, change) = filter.advance(alloc, own, inputs, reads)?;
-                Ok((Running::Where(filter), change))
+                Ok((AnyOperator::Where(filter), change))
             }
-            Running::View(view) => {
+            AnyOperator::View(view) => {
                 let (view, change) = view.advance(alloc, own, inputs, reads)?;
-                Ok((Running::View(view), change))
+                Ok((AnyOperator::View(view), change))
             }
-            Running::Join(join) => {
+            AnyOperator::Join(join) => {
                 let (join, change) = join.advance(alloc, own, inputs, reads)?;
-                Ok((Running::Join(join), change))
+                Ok((AnyOperator::Join(join), change))
             }
-            Running::Agg(agg) => {
+            AnyOperator::Agg(agg) => {
                 let (agg, change) = agg.advance(alloc, own, inputs, reads)?;
-                Ok((Running::Agg(agg), change))
+                Ok((AnyOperator::Agg(agg), change))
             }
-            Running::Merge(merge) => {
+            AnyOperator::Merge(merge) => {
                 let (merge, change) = merge.advance(alloc, own, inputs, reads)?;
-                Ok((Running::Merge(merge), change))
+                Ok((AnyOperator::Merge(merge), change))
             }
-            Running::Sort(sort) => {
+            AnyOperator::Sort(sort) => {
                 let (sort, change) = sort.advance(alloc, own, inputs, reads)?;
-                Ok((Running::Sort(sort), change))
+                Ok((AnyOperator::Sort(sort), change))
             }
-            Running::Head(head) => {
+            AnyOperator::Head(head) => {
                 let (head, change) = head.advance(alloc, own, inputs, reads)?;
-                Ok((Running::Head(head), change))
+                Ok((AnyOperator::Head(head), change))
             }
-            Running::Tail(tail) => {
+            AnyOperator::Tail(tail) => {
                 let (tail, change) = tail.advance(alloc, own, inputs, reads)?;
-                Ok((Running::Tail(tail), change))
+                Ok((AnyOperator::Tail(tail), change))
             }
-            Running::AsOf(join) => {
+            AnyOperator::AsOf(join) => {
                 let (join, change) = join.advance(alloc, own, inputs, reads)?;
-                Ok((Running::AsOf(join), change))
+                Ok((AnyOperator::AsOf(join), change))
             }
         }
     }

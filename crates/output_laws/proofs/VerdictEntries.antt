@@ -7,7 +7,7 @@ use Rattle.replay.specs.Outcomes.{text_until}
 use Rattle.tick_model.{specs.declared.feed.Run.Run, specs.Spoiled.{Cause, ByBatch, ByNode, ByPublication, good}, specs.Texts.{done_record, record_text}}
 use Rattle.update_text.specs.declared.shown.Shown.{Shown}
 use Rattle.watched_run.{specs.Messages.watch_text, specs.ToCome.watch_until}
-use Rattle.run_output.{specs.declared.entry.Entry.Entry, specs.declared.entry.Entry.TheVariants.{Done as End, Fault}, specs.Entries.{IsEntry, entry_text, output_text}, specs.Runs.tables_of, proofs.RunTold.step_small}
+use Rattle.run_output.{specs.declared.entry.OutputEntry.OutputEntry, specs.declared.entry.OutputEntry.TheVariants.{Done as End, Fault}, specs.Entries.{IsEntry, entry_text, output_text}, specs.Runs.tables_of, proofs.RunTold.step_small}
 use Rattle.output_laws.{specs.Wholes.{AreOf, IsRun, IsShownTo, fault_of, verdict_entries}, specs.Written.{messages, run_entries, watch_entries}, proofs.WatchedEntries.{messages_are, messages_told, watch_are, watch_told}, proofs.WrittenEntries.{text_is, until}}
 
 -- the records of faults
@@ -30,7 +30,7 @@ module _ (tables : List Shown) (texts : List (List ℕ)) where
   end_told : (step : ℕ) → record_text (done_record step) ≡ output_text tables texts (End step ∷ [])
   end_told step = sym (append-nil (record_text (done_record step))) ∙ sym (append-nil (entry_text tables texts (End step)))
 
-  both_told : (text end : List ℕ) (entries last : List Entry) → text ≡ output_text tables texts entries → end ≡ output_text tables texts last → text ++ end ≡ output_text tables texts (entries ++ last)
+  both_told : (text end : List ℕ) (entries last : List OutputEntry) → text ≡ output_text tables texts entries → end ≡ output_text tables texts last → text ++ end ≡ output_text tables texts (entries ++ last)
   both_told text end entries last e f =
       ap (λ (some : List ℕ). some ++ end) e ∙ ap (λ (some : List ℕ). output_text tables texts entries ++ some) f ∙ sym (flat_map-append (entry_text tables texts) entries last)
 

@@ -7,7 +7,7 @@ use Rattle.tick_model.{specs.declared.feed.Run.Run, specs.declared.table.PlainTa
 use Rattle.tick_table.specs.Ticking.{no_rows}
 use Rattle.viewport.{specs.declared.slice.Slice.Slice, specs.Slices.cut}
 use Rattle.watched_run.{specs.declared.watch.Watch.Watch, specs.Messages.{IsWatch, first_records, gaps, later_records, message_records, slice_of, watch_text}, specs.ToCome.watch_until, proofs.WatchedRows.{column_count, fits}}
-use Rattle.run_output.{specs.declared.entry.Entry.Entry, specs.Entries.{IsEntry, entry_text, output_text}, specs.Runs.{applied, copy_after, tables_of, told_update}, proofs.RunTables.{fold-append, told_moves}, proofs.RunTexts.told_is, proofs.RunTold.{change_told, step_small}}
+use Rattle.run_output.{specs.declared.entry.OutputEntry.OutputEntry, specs.Entries.{IsEntry, entry_text, output_text}, specs.Runs.{applied, copy_after, tables_of, told_update}, proofs.RunTables.{fold-append, told_moves}, proofs.RunTexts.told_is, proofs.RunTold.{change_told, step_small}}
 use Rattle.output_laws.specs.Written.{later_entries, message_entry, messages, watch_entries}
 
 module _ (run : Run) (watch : Watch) where
@@ -38,7 +38,7 @@ module _ (run : Run) (h : IsLawfulRun run) (watch : Watch) (w : IsWatch run watc
   abbrev at : ℕ → PlainTable
   at step = cut asked (table_at (state run step) watch.node)
 
-  abbrev Told : List Entry → Type 0
+  abbrev Told : List OutputEntry → Type 0
   Told = AllByRecursion (IsEntry (tables_of run) run.texts)
 
   reached : (step : ℕ) → step ≤ last → IsReached run step

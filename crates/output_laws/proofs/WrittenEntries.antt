@@ -4,7 +4,7 @@ use Rattle.std.{specs.Prelude.nat_lt, specs.List.AllByRecursion, proofs.lemmas.G
 use Rattle.key_lists.proofs.Every.{every-append}
 use Rattle.replay.{specs.declared.outcome.Knobs.Knobs, specs.Kept.{kept_words, most_words}, specs.Outcomes.{IsLawfulChoice, last_written, text_until}}
 use Rattle.tick_model.{specs.declared.feed.Run.Run, specs.LawfulRuns.IsLawfulRun, specs.Spoiled.good, specs.Texts.snapshots_text}
-use Rattle.run_output.{specs.declared.entry.Entry.Entry, specs.Entries.{IsEntry, entry_text, output_text}, specs.Runs.{snapshot_entries, tables_of, update_entries}, proofs.RunTexts.{snapshots_told, updates_told}, proofs.RunTold.{snapshots_are, updates_are}}
+use Rattle.run_output.{specs.declared.entry.OutputEntry.OutputEntry, specs.Entries.{IsEntry, entry_text, output_text}, specs.Runs.{snapshot_entries, tables_of, update_entries}, proofs.RunTexts.{snapshots_told, updates_told}, proofs.RunTold.{snapshots_are, updates_are}}
 use Rattle.output_laws.specs.Written.{run_entries}
 
 pub text_is : (run : Run) (last : Option ℕ) (choice : List (List ℕ)) → text_until run last choice ≡ output_text (tables_of run) run.texts (run_entries run last choice)
@@ -15,7 +15,7 @@ text_is run (Some last) choice =
     ∙ sym (flat_map-append (entry_text (tables_of run) run.texts) (update_entries run last) (snapshot_entries run choice))
 
 module _ (run : Run) (h : IsLawfulRun run) (knobs : Knobs) (callers : knobs.callers ≤ 16) (snaps : knobs.snaps ≤ 64) (choice : List (List ℕ)) where
-  abbrev Told : List Entry → Type 0
+  abbrev Told : List OutputEntry → Type 0
   Told = AllByRecursion (IsEntry (tables_of run) run.texts)
 
   pub until : (last : Option ℕ) → good run ≡ last → IsLawfulChoice knobs last choice → Told (run_entries run last choice)

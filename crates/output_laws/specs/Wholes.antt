@@ -8,14 +8,14 @@ use Rattle.replay.specs.declared.outcome.Knobs.{Knobs}
 use Rattle.tick_model.{specs.declared.feed.Run.Run, specs.LawfulRuns.IsLawfulRun, specs.Spoiled.good}
 use Rattle.update_text.specs.declared.shown.Shown.{Shown}
 use Rattle.watched_run.specs.Messages.{IsWatch}
-use Rattle.run_output.{specs.declared.entry.Entry.Entry, specs.declared.entry.Entry.TheVariants.{Done as End, Fault}, specs.Runs.tables_of}
+use Rattle.run_output.{specs.declared.entry.OutputEntry.OutputEntry, specs.declared.entry.OutputEntry.TheVariants.{Done as End, Fault}, specs.Runs.tables_of}
 use Rattle.output_laws.specs.Written.{messages, run_entries, watch_entries}
 
 -- the end by the fault of a record
-abbrev pub fault_of : List (List ℕ) → List Entry
+abbrev pub fault_of : List (List ℕ) → List OutputEntry
 fault_of fields = Fault (drop 1 fields) ∷ []
 
-abbrev pub verdict_entries : Verdict → List (List ℕ) → List Entry
+abbrev pub verdict_entries : Verdict → List (List ℕ) → List OutputEntry
 verdict_entries (Refused refusal) choice = fault_of (refusal_record refusal)
 verdict_entries (Summary steps) choice = []
 verdict_entries (Kept words) choice = fault_of (kept_record words)

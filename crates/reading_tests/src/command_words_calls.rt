@@ -6,61 +6,61 @@ use std::test::Fail;
 
 /// Words with one space between two of them, and the command, or nothing.
 #[derive(Clone, Copy)]
-struct Case {
+struct WordCase {
     words: &'static str,
     told: &'static str,
 }
 
-const CASES: [Case; 13] = [
-    Case {
+const CASES: [WordCase; 13] = [
+    WordCase {
         words: "run s f",
         told: "Command { task: Run { script: Name { text: \"s\" }, feed: Name { text: \"f\" } }, workers: 1, callers: 0, snaps: 0, attempts: 2, every: 1 }",
     },
-    Case {
+    WordCase {
         words: "run --workers 08 s --callers=16 f --snaps 64",
         told: "Command { task: Run { script: Name { text: \"s\" }, feed: Name { text: \"f\" } }, workers: 8, callers: 16, snaps: 64, attempts: 2, every: 1 }",
     },
-    Case {
+    WordCase {
         words: "demo --attempts=0 -- 10000",
         told: "Command { task: Demo { steps: 10000 }, workers: 1, callers: 0, snaps: 0, attempts: 0, every: 1 }",
     },
-    Case {
+    WordCase {
         words: "run - -- --workers",
         told: "Command { task: Run { script: Name { text: \"-\" }, feed: Name { text: \"--workers\" } }, workers: 1, callers: 0, snaps: 0, attempts: 2, every: 1 }",
     },
-    Case {
+    WordCase {
         words: "run s f --workers 1 --workers 1",
         told: "",
     },
-    Case {
+    WordCase {
         words: "run s f --workers 65",
         told: "",
     },
-    Case {
+    WordCase {
         words: "run s f --help",
         told: "",
     },
-    Case {
+    WordCase {
         words: "demo 10001",
         told: "",
     },
-    Case {
+    WordCase {
         words: "watch s f n 0 4194304 --every=100000",
         told: "Command { task: Watch { script: Name { text: \"s\" }, feed: Name { text: \"f\" }, node: Name { text: \"n\" }, first: 0, count: 4194304 }, workers: 1, callers: 0, snaps: 0, attempts: 2, every: 100000 }",
     },
-    Case {
+    WordCase {
         words: "watch --workers 3 s f n -- 4194303 1",
         told: "Command { task: Watch { script: Name { text: \"s\" }, feed: Name { text: \"f\" }, node: Name { text: \"n\" }, first: 4194303, count: 1 }, workers: 3, callers: 0, snaps: 0, attempts: 2, every: 1 }",
     },
-    Case {
+    WordCase {
         words: "watch s f n 0 0",
         told: "",
     },
-    Case {
+    WordCase {
         words: "watch s f n 0 1 --callers 1",
         told: "",
     },
-    Case {
+    WordCase {
         words: "run s f --every 1",
         told: "",
     },

@@ -9,9 +9,9 @@ use std::test::Fail;
 const TWO_SOURCES: &str = "table t sym:text qty:long\ntable u sym:text qty:long\n";
 
 /// The number of a refused record, and the kind; nothing where the text is read.
-type Refusal = Option<(u64, TextKind)>;
+type ReadRefusal = Option<(u64, TextKind)>;
 
-const FEEDS: [(&str, Refusal); 66] = [
+const FEEDS: [(&str, ReadRefusal); 66] = [
     ("", None),
     (".\n", None),
     ("t,t\na,0,IBM,5\na,1,AAPL,20\n.\n", None),
@@ -115,7 +115,7 @@ const FEEDS: [(&str, Refusal); 66] = [
     ("t,t\n.\n.\nt,t\n", Some((4, TextKind::Unfinished))),
 ];
 
-const TABLES: [(&str, Refusal); 16] = [
+const TABLES: [(&str, ReadRefusal); 16] = [
     ("sym,qty", None),
     ("sym,qty\nA,1\n\"\",\n,3\n", None),
     ("\u{feff}\"sym\",qty\r\nA,00000000000000007\r\n", None),
@@ -147,7 +147,7 @@ const NOT_TEXT: [(&[u8; 12], u64); 3] = [
     (b".\nx,\xff\n\n\n\n\n\n\n", 2),
 ];
 
-fn refusal<X: Drop>(answer: Result<X, TextFault>) -> Result<Refusal, AllocError> {
+fn refusal<X: Drop>(answer: Result<X, TextFault>) -> Result<ReadRefusal, AllocError> {
     match answer {
         Ok(_) => Ok(None),
         Err(TextFault::Refused { number, kind }) => Ok(Some((number, kind))),

@@ -5,7 +5,7 @@ ghost use Rattle.tick_model.specs.Names.{are_distinct};
 ghost use Rattle.run_output.specs.Entries.{IsShown};
 
 use crate::update_text_calls::{big, symbols};
-use run_output::{Entry, read_output};
+use run_output::{OutputEntry, read_output};
 use std::alloc::{AllocError, Global};
 use std::test::Fail;
 use tick_model::items::Items;
@@ -31,12 +31,12 @@ fn an_output_is_read_back(rt: HostRuntime) -> Result<(), Fail> {
     let entries = entries.as_slice();
     assert_eq!(rt; entries.len(), 4);
     assert!(rt;
-        matches!(entries.first(), Some(Entry::Update { table: 0, step: 0, change }) if change.cells.len() == 4)
+        matches!(entries.first(), Some(OutputEntry::Update { table: 0, step: 0, change }) if change.cells.len() == 4)
     );
     assert!(rt;
         matches!(
             entries.get(1),
-            Some(Entry::Update {
+            Some(OutputEntry::Update {
                 table: 0,
                 step: 3,
                 ..
@@ -44,11 +44,16 @@ fn an_output_is_read_back(rt: HostRuntime) -> Result<(), Fail> {
         )
     );
     assert!(rt;
-        matches!(entries.get(2), Some(Entry::Snapshot { table: 0, snapshot }) if snapshot.rows.len() == 1)
+        matches!(entries.get(2), Some(OutputEntry::Snapshot { table: 0, snapshot }) if snapshot.rows.len() == 1)
     );
-    assert!(rt; matches!(entries.get(3), Some(Entry::Fault { fields }) if fields.len() == 3));
+    assert!(rt; matches!(entries.get(3), Some(OutputEntry::Fault { fields }) if fields.len() == 3));
     let ended = read_output(rt.alloc(), b"done,7\n", &tables, &texts)?;
-    assert!(rt; matches!(ended.as_slice().first(), Some(Entry::Done { step: 7 })));
+    assert!(rt;
+        matches!(
+            ended.as_slice().first(),
+            Some(OutputEntry::Done { step: 7 })
+        )
+    );
     Ok(())
 }
 

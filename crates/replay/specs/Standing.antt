@@ -9,7 +9,7 @@ use Rattle.std.specs.Prelude.{◌≡◌, ℕ, ◌≤◌, Option, None, Some, len
 use Rattle.snapshot_store.{specs.Models.{IsOf, StoreModel, WriterModel}, specs.declared.writers.Phase.TheVariants.Idle}
 use Rattle.tick_model.{specs.declared.feed.Run.Run, specs.Spoiled.{good, publication_fault}, specs.States.state, specs.Texts.updates_records}
 use Rattle.tick_laws.specs.Reached.{IsReached}
-use Rattle.replay.{specs.declared.progress.Progress.Progress, specs.Printed.printed_of}
+use Rattle.replay.{specs.declared.progress.PrintedRun.PrintedRun, specs.Printed.printed_of}
 
 abbrev pub IsWithin : Run → ℕ → Type 0
 IsWithin run step = publication_fault 0 (state run step) run.plan.published ≡ None
@@ -18,14 +18,14 @@ pub record IsGood (run : Run) (step : ℕ) : Type 0 where
   pub reached : IsReached run step
   pub within : (s : ℕ) → s ≤ step → IsWithin run s
 
-pub record IsAt (run : Run) (step : ℕ) (progress : Progress) : Type 0 where
+pub record IsAt (run : Run) (step : ℕ) (progress : PrintedRun) : Type 0 where
   pub run_is : progress.graph.run ≡ run
   pub step_is : progress.graph.step ≡ step
   pub good : IsGood run step
   pub printed_are : progress.printed ≡ map (printed_of run) run.plan.printed
   pub records_are : progress.records ≡ length (updates_records run step)
 
-abbrev pub IsReady : Run → Option Progress → Type 0
+abbrev pub IsReady : Run → Option PrintedRun → Type 0
 IsReady run None = ⊥
 IsReady run (Some progress) = IsAt run 0 progress
 

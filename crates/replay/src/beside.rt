@@ -8,7 +8,7 @@ ghost use Rattle.replay.specs.Snapshots.{EachReader, HasRead, IsReader};
 ghost use Rattle.replay.specs.Standing.{IsAt, IsReady, IsWriterAt};
 ghost use Rattle.replay.specs.Steps.{HasRun};
 
-use crate::progress::Progress;
+use crate::progress::PrintedRun;
 use crate::readers::Reader;
 use crate::steps::run_steps;
 use crate::{Knobs, Outcome};
@@ -100,7 +100,7 @@ fn feed<R: Threads + Wait + Sync, S: Sink, G: Gate>(
     workers: u32,
     gate: &G,
     store: &Store,
-    progress: &mut Option<Progress>,
+    progress: &mut Option<PrintedRun>,
     writer: &mut Writer,
     out: &mut S,
 ) -> Outcome
@@ -127,7 +127,7 @@ pub(crate) fn run_beside<R: Threads + Wait + Sync, S: Sink, G: Gate>(
     knobs: &Knobs,
     gate: &G,
     store: &Store,
-    progress: Progress,
+    progress: PrintedRun,
     readers: &mut [Reader],
     writer: &mut Writer,
     out: &mut S,

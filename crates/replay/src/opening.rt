@@ -18,7 +18,7 @@ ghost use Rattle.replay.specs.Snapshots.{EachReader, IsReader, callers_of};
 ghost use Rattle.replay.specs.Standing.{IsAt, IsWithin};
 ghost use Rattle.replay.specs.ToCome.{text_from};
 
-use crate::progress::Progress;
+use crate::progress::PrintedRun;
 use crate::readers::Reader;
 use crate::{Knobs, Outcome};
 use snapshot_store::{Caller, Layout, Store, Writer};
@@ -41,7 +41,7 @@ pub(crate) struct Publication {
 /// A run that was opened.
 #[derive(Drop)]
 pub(crate) struct Opened {
-    pub(crate) progress: Progress,
+    pub(crate) progress: PrintedRun,
     pub(crate) publication: Publication,
 }
 
@@ -141,7 +141,7 @@ pub(crate) fn open_run<S: Sink>(
     ensures never_falls { S.failures out.old ≤ S.failures out.new }
     ensures steady { OnTold result (S.failures out.new ≡ S.failures out.old) }
 {
-    let progress = Progress::open(alloc, run, out)?;
+    let progress = PrintedRun::open(alloc, run, out)?;
     let callers = caller_count(run.plan.published.as_slice(), knobs.callers);
     let publication = published(alloc, run, &progress.graph, callers)?;
     Ok(Opened {

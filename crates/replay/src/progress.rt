@@ -29,16 +29,20 @@ use update_graph::Graph;
 
 /// A run whose steps up to one are printed.
 #[derive(Drop)]
-pub(crate) struct Progress {
+pub(crate) struct PrintedRun {
     pub(crate) graph: Graph,
     printed: Items<PrintedNode>,
     /// How many records were printed.
     records: u64,
 }
 
-impl Progress {
+impl PrintedRun {
     /// Opens a run, and prints its opening.
-    pub(crate) fn open<S: Sink>(alloc: Global, run: &Run, out: &mut S) -> Result<Progress, Outcome>
+    pub(crate) fn open<S: Sink>(
+        alloc: Global,
+        run: &Run,
+        out: &mut S,
+    ) -> Result<PrintedRun, Outcome>
         requires { IsLawfulRun run.now }
         ensures stands { IfOk result (IsAt run.now 0) }
         ensures whole { OnOk result (S.bytes out.new ≡ append_known (S.bytes out.old) (records_text (step_records run.now 0))) }
@@ -53,7 +57,7 @@ impl Progress {
         let graph = Graph::start(alloc, run)?;
         check_limits(&graph, run.plan.published.as_slice())?;
         let records = write_step(alloc, out, &graph, &run.texts, printed.as_slice())?;
-        Ok(Progress {
+        Ok(PrintedRun {
             graph,
             printed,
             records,
@@ -71,7 +75,7 @@ impl Progress {
         store: &Store,
         writer: &mut Writer,
         out: &mut S,
-    ) -> Result<Progress, Outcome>
+    ) -> Result<PrintedRun, Outcome>
         requires lawful { IsLawfulRun run.now }
         requires stands { IsAt run.now self.graph.step self }
         requires next { self.graph.step < length run.now.batches }
@@ -89,14 +93,14 @@ impl Progress {
         ensures never_falls { S.failures out.old ≤ S.failures out.new }
         ensures steady { OnTold result (S.failures out.new ≡ S.failures out.old) }
     {
-        let Progress {
+        let PrintedRun {
             graph,
             printed,
             records,
         } = self;
         let graph = next_published(rt, alloc, run, hands, graph, gate, store, writer)?;
         let more = write_step(alloc, out, &graph, &run.texts, printed.as_slice())?;
-        Ok(Progress {
+        Ok(PrintedRun {
             graph,
             printed,
             records: records + more,

@@ -12,7 +12,7 @@ ghost use Rattle.replay.specs.ToCome.{text_from};
 
 use crate::Outcome;
 use crate::hands::Hands;
-use crate::progress::Progress;
+use crate::progress::PrintedRun;
 use snapshot_store::{Store, Writer};
 use std::alloc::{AllocError, Global};
 use std::sync::Wait;
@@ -28,10 +28,10 @@ fn bring_to_end<R: Threads + Wait + Sync, S: Sink, G: Gate>(
     hands: &mut Hands,
     gate: &G,
     store: &Store,
-    progress: Progress,
+    progress: PrintedRun,
     writer: &mut Writer,
     out: &mut S,
-) -> Result<Progress, Outcome>
+) -> Result<PrintedRun, Outcome>
     requires lawful { IsLawfulRun run.now }
     requires store { store.now.run ≡ run.now }
     requires stands { IsAt run.now 0 progress }
@@ -63,7 +63,7 @@ pub(crate) fn run_steps<R: Threads + Wait + Sync, S: Sink, G: Gate>(
     workers: u32,
     gate: &G,
     store: &Store,
-    progress: Progress,
+    progress: PrintedRun,
     writer: &mut Writer,
     out: &mut S,
 ) -> Outcome

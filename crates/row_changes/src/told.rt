@@ -20,7 +20,7 @@ use tick_table::{Steps, Version};
 
 /// The rows that a change tells.
 #[derive(Drop)]
-pub struct Told {
+pub struct ChangedRows {
     /// The cells of the added rows and then of the modified ones, one row after the other.
     pub cells: Vec<i64>,
     /// The keys of the modified rows.
@@ -29,7 +29,7 @@ pub struct Told {
     pub columns: ColumnSet,
 }
 
-impl Told {
+impl ChangedRows {
     /// Tells a modified row, whose key is above those that are told, by its cells before the step and now.
     pub fn put(
         &mut self,
@@ -62,7 +62,7 @@ pub(crate) fn compare_rows<L: Ledger, R: Rows<L>>(
     now: &RowSet,
     cells: Vec<i64>,
     reads: &mut Steps<L>,
-) -> Result<Told, AllocError>
+) -> Result<ChangedRows, AllocError>
     requires ready { R.ready rows.now }
     requires few { width ≤ 32 }
     requires even { length before.now ≡ length now.now }
@@ -74,7 +74,7 @@ pub(crate) fn compare_rows<L: Ledger, R: Rows<L>>(
     ensures cells { IfOk result (λ told. told.cells.items ≡ cells.items ++ cells_under (R.table rows.now Version.Now) told.modified) }
     ensures reads { reads.new ≤ reads.old + R.row_reads rows.now * (2 * length now.now) }
 {
-    let mut told = Told {
+    let mut told = ChangedRows {
         cells,
         modified: RowSet::new(alloc),
         columns: ColumnSet::none(),
@@ -92,7 +92,7 @@ fn compare_row<L: Ledger, R: Rows<L>>(
     rows: &R,
     width: u32,
     pair: KeyPair,
-    told: &mut Told,
+    told: &mut ChangedRows,
     row: &mut Vec<i64>,
     reads: &mut Steps<L>,
 ) -> Result<(), AllocError>

@@ -3,7 +3,7 @@ use Rattle.std.proofs.Common.{◌≡◌, ◌≢◌, refl, ap, ap₂, sym, ◌∙
 use Rattle.std.{specs.List.AllZip, proofs.lemmas.List.get_or_at, proofs.lemmas.List.Elements.{AllZip-get_or, length_all_zip}, proofs.lemmas.Option.same_Some}
 use Rattle.key_lists.specs.Keys.{is_among}
 use Rattle.row_handles.specs.Entries.{handle_under}
-use Rattle.row_groups.{specs.declared.index.Index.Index, specs.declared.lists.Lists.Lists, specs.declared.table.Kept.Kept, specs.Members.{IsNumberUnder, Member, member_under}, specs.Rows.{AreNumbered, Becomes, IsKept, at_in, cells_in, cells_with, kept_in, slots_numbered, slots_under}, specs.Slots.{IsGroup, slots_without}, specs.Indexes.{IsIndex, grouped_of, numbered_of}, proofs.Keys.{some_of, under_has}, proofs.Groupings.{there_under, under_same}, proofs.Indexed.{AreGone, group_there, kept_of, some_cells, step_less}, proofs.Named.name_is}
+use Rattle.row_groups.{specs.declared.index.GroupIndex.GroupIndex, specs.declared.lists.Lists.Lists, specs.declared.table.GroupMember.GroupMember, specs.Members.{IsNumberUnder, Member, member_under}, specs.Rows.{AreNumbered, Becomes, IsKept, at_in, cells_in, cells_with, kept_in, slots_numbered, slots_under}, specs.Slots.{IsGroup, slots_without}, specs.Indexes.{IsIndex, grouped_of, numbered_of}, proofs.Keys.{some_of, under_has}, proofs.Groupings.{there_under, under_same}, proofs.Indexed.{AreGone, group_there, kept_of, some_cells, step_less}, proofs.Named.name_is}
 
 -- two lists that are walked together: the item at the place of the next one
 module _ (R : ℕ → ℕ → Type 0) (keys yielded others numbers : List ℕ) (key place : ℕ) (next : keys ≡ yielded ++ key ∷ others) (count : place ≡ length yielded) (all : AllZip R keys numbers) where
@@ -17,19 +17,19 @@ module _ (R : ℕ → ℕ → Type 0) (keys yielded others numbers : List ℕ) (
   zipped_next = subst (λ k. R k (get_or numbers place 0)) (ap₂ (λ ks n. get_or ks n 0) next count ∙ get_or_at yielded key others 0 (length yielded) refl) (AllZip-get_or R keys numbers place 0 0 all below)
 
 -- a row is to leave of which it is known what is kept
-pub record Departs (gone : List ℕ) (key : ℕ) (kept : Kept) (old index : Index) : Type 0 where
+pub record Departs (gone : List ℕ) (key : ℕ) (kept : GroupMember) (old index : GroupIndex) : Type 0 where
   pub handle : ℕ
   pub so_far : AreGone gone old index
   pub new : is_among key gone ≡ false
   pub here : handle_under key index.handles ≡ Some handle
   pub kept_is : kept_in index.table handle ≡ kept
 
-module _ (gone : List ℕ) (key : ℕ) (kept : Kept) (old index : Index) (d : Departs gone key kept old index) where
+module _ (gone : List ℕ) (key : ℕ) (kept : GroupMember) (old index : GroupIndex) (d : Departs gone key kept old index) where
   pub departs_there : IsSome (cells_with kept.number index.lists.groups)
-  departs_there = subst (λ (kept : Kept). IsSome (cells_with kept.number index.lists.groups)) d.kept_is (kept_of gone key d.handle index d.so_far.holds d.new d.here).there
+  departs_there = subst (λ (kept : GroupMember). IsSome (cells_with kept.number index.lists.groups)) d.kept_is (kept_of gone key d.handle index d.so_far.holds d.new d.here).there
 
   pub departs_group : IsGroup index.handles (slots_numbered kept.number index.lists.groups)
-  departs_group = subst (λ (kept : Kept). IsGroup index.handles (slots_numbered kept.number index.lists.groups)) d.kept_is (group_there gone key d.handle index d.so_far.holds d.new d.here)
+  departs_group = subst (λ (kept : GroupMember). IsGroup index.handles (slots_numbered kept.number index.lists.groups)) d.kept_is (group_there gone key d.handle index d.so_far.holds d.new d.here)
 
   -- its group loses it
   pub departed : (lists : Lists) (place : ℤ) → place ≡ kept.at
@@ -41,13 +41,13 @@ module _ (gone : List ℕ) (key : ℕ) (kept : Kept) (old index : Index) (d : De
       let groups = index.lists.groups in
       let cells = cells_in index.table groups d.handle in
       let back = sym d.kept_is in
-      let own = subst (λ (kept : Kept). cells_with kept.number groups ≡ Some cells) d.kept_is (some_cells (cells_with (kept_in index.table d.handle).number groups) (kept_of gone key d.handle index d.so_far.holds d.new d.here).there) in
+      let own = subst (λ (kept : GroupMember). cells_with kept.number groups ≡ Some cells) d.kept_is (some_cells (cells_with (kept_in index.table d.handle).number groups) (kept_of gone key d.handle index d.so_far.holds d.new d.here).there) in
       step_less gone key d.handle old index lists d.so_far d.new (record {
         here = d.here;
-        becomes = subst (λ (a : ℤ). Becomes cells (slots_without index.handles a key (slots_under cells index.lists)) index.lists lists) (same ∙ ap (λ (kept : Kept). kept.at) back) (becomes cells own);
-        stays = subst (λ (kept : Kept). slots_without index.handles kept.at key (slots_numbered kept.number groups) ≢ [] → cells_with kept.number lists.groups ≡ cells_with kept.number groups) back
+        becomes = subst (λ (a : ℤ). Becomes cells (slots_without index.handles a key (slots_under cells index.lists)) index.lists lists) (same ∙ ap (λ (kept : GroupMember). kept.at) back) (becomes cells own);
+        stays = subst (λ (kept : GroupMember). slots_without index.handles kept.at key (slots_numbered kept.number groups) ≢ [] → cells_with kept.number lists.groups ≡ cells_with kept.number groups) back
             (subst (λ (a : ℤ). slots_without index.handles a key (slots_numbered kept.number groups) ≢ [] → cells_with kept.number lists.groups ≡ cells_with kept.number groups) same stays);
-        others = subst (λ (kept : Kept). (other : ℕ) → other ≢ kept.number → cells_with other lists.groups ≡ cells_with other groups) back others;
+        others = subst (λ (kept : GroupMember). (other : ℕ) → other ≢ kept.number → cells_with other lists.groups ≡ cells_with other groups) back others;
         fewer = fewer;
         numbered = numbered;
       })
@@ -57,7 +57,7 @@ handle_is None there = absurd (cc)
 handle_is (Some handle) there = refl
 
 -- the next one of the keys, whose groups' numbers and whose `at` are known
-pub numbered_departs : (keys yielded others numbers : List ℕ) (key place : ℕ) (at : ℤ) (old index : Index) → IsIndex old → AreGone yielded old index → keys ≡ yielded ++ key ∷ others → is_among key yielded ≡ false → place ≡ length yielded → AllZip (IsNumberUnder (numbered_of old)) keys numbers
+pub numbered_departs : (keys yielded others numbers : List ℕ) (key place : ℕ) (at : ℤ) (old index : GroupIndex) → IsIndex old → AreGone yielded old index → keys ≡ yielded ++ key ∷ others → is_among key yielded ≡ false → place ≡ length yielded → AllZip (IsNumberUnder (numbered_of old)) keys numbers
     → option_map (λ (member : Member). member.at) (member_under key (grouped_of old).members) ≡ Some at → Departs yielded key (record { number = get_or numbers place 0; at = at }) old index
 numbered_departs keys yielded others numbers key place at old index is so_far next new count all placed =
     let groups = old.lists.groups in
@@ -75,6 +75,6 @@ numbered_departs keys yielded others numbers key place at old index is so_far ne
       here = ap (handle_under key) so_far.handles ∙ here;
       kept_is =
           ap (λ table. kept_in table handle) so_far.table
-          ∙ ap₂ (λ (number : ℕ) (at : ℤ). let kept : Kept = record { number = number; at = at } in kept) ((under cells member).alone (kept_in old.table handle).number named)
+          ∙ ap₂ (λ (number : ℕ) (at : ℤ). let kept : GroupMember = record { number = number; at = at } in kept) ((under cells member).alone (kept_in old.table handle).number named)
           (same_Some _ _ (sym (under_same (λ member. member.at) (at_in old.table) key old.table groups old.handles (λ x. refl) ∙ ap (option_map (at_in old.table)) here) ∙ placed));
     }

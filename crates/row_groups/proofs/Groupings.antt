@@ -5,7 +5,7 @@ use Rattle.key_lists.{specs.Keys.is_among, proofs.Every.{every_both, every_weake
 use Rattle.row_set.specs.Sets.{IsKeySet}
 use Rattle.tick_model.{specs.Tables.same_cells, specs.declared.update.ShiftRange.ShiftRange}
 use Rattle.row_handles.specs.Entries.{AreHandled, Ascend, Entry, entry_of, handle_under, key_with, keys_of as entry_keys, left_rows, moved_rows, with_row as entries_with}
-use Rattle.row_groups.{specs.declared.place.Slot.Slot, specs.declared.lists.Lists.Lists, specs.declared.table.Table.Table, specs.Members.{AreGrouped, Member, by_at, group_of, keys_of, left_members, member_of, member_under, moved_member, moved_members, placed, with_member}, specs.Slots.{AreKnown, AreRanked, IsGroup, IsParted, is_before, key_in, member_at, slots_with, slots_without}, specs.Rows.{AreListed, Becomes, ByNumber, IsKept, IsSame, Row, at_in, cells_in, group_rows, members_of, row_of, row_placed, rows_by_at, rows_of, slot_of, slots_under}, proofs.Order.{at_most, less, less_above, less_below, less_itself, less_through}, proofs.Ranks.{Ascends, Ranked, before, every-by_at, every-group, group_ranked, group_with, group_without, put_in, with_row}, proofs.Ends.{failed_all, passed_all}, proofs.Keys.{known_all, small_key}, proofs.Parts.unlike}
+use Rattle.row_groups.{specs.declared.place.GroupRow.GroupRow, specs.declared.lists.Lists.Lists, specs.declared.table.Table.Table, specs.Members.{AreGrouped, Member, by_at, group_of, keys_of, left_members, member_of, member_under, moved_member, moved_members, placed, with_member}, specs.Slots.{AreKnown, AreRanked, IsGroup, IsParted, is_before, key_in, member_at, slots_with, slots_without}, specs.Rows.{AreListed, Becomes, ByNumber, IsKept, IsSame, Row, at_in, cells_in, group_rows, members_of, row_of, row_placed, rows_by_at, rows_of, slot_of, slots_under}, proofs.Order.{at_most, less, less_above, less_below, less_itself, less_through}, proofs.Ranks.{Ascends, Ranked, before, every-by_at, every-group, group_ranked, group_with, group_without, put_in, with_row}, proofs.Ends.{failed_all, passed_all}, proofs.Keys.{known_all, small_key}, proofs.Parts.unlike}
 
 -- a group of rows has the members of the group
 placed_members : (row : Row) (rows : List Row) → members_of (row_placed row rows) ≡ placed row.member (members_of rows)
@@ -89,11 +89,11 @@ slots_put entries row (other ∷ others) h =
     ∙ ap (λ b. if b then slot_of other ∷ slots_with entries row.member.at row.member.key (slot_of row) (map slot_of others) else slot_of row ∷ slot_of other ∷ map slot_of others) (sym (before_same entries other row.member.at row.member.key h.0))
 
 -- a row taken out at its own place
-again_by : (entries : List Entry) (at : ℤ) (key : ℕ) (slot s : Slot) (slots : List Slot) → is_before entries at key slot ≡ false → slots_without entries at key (slots_with entries at key slot slots) ≡ slots → (b : Bool) → is_before entries at key s ≡ b → slots_without entries at key (if b then s ∷ slots_with entries at key slot slots else slot ∷ s ∷ slots) ≡ s ∷ slots
+again_by : (entries : List Entry) (at : ℤ) (key : ℕ) (slot s : GroupRow) (slots : List GroupRow) → is_before entries at key slot ≡ false → slots_without entries at key (slots_with entries at key slot slots) ≡ slots → (b : Bool) → is_before entries at key s ≡ b → slots_without entries at key (if b then s ∷ slots_with entries at key slot slots else slot ∷ s ∷ slots) ≡ s ∷ slots
 again_by entries at key slot s slots own rest true e = ap (λ b. if b then s ∷ slots_without entries at key (slots_with entries at key slot slots) else slots_with entries at key slot slots) e ∙ ap (λ ss. s ∷ ss) rest
 again_by entries at key slot s slots own rest false e = ap (λ b. if b then slot ∷ slots_without entries at key (s ∷ slots) else s ∷ slots) own
 
-pub taken_again : (entries : List Entry) (at : ℤ) (key : ℕ) (slot : Slot) (slots : List Slot) → is_before entries at key slot ≡ false → slots_without entries at key (slots_with entries at key slot slots) ≡ slots
+pub taken_again : (entries : List Entry) (at : ℤ) (key : ℕ) (slot : GroupRow) (slots : List GroupRow) → is_before entries at key slot ≡ false → slots_without entries at key (slots_with entries at key slot slots) ≡ slots
 taken_again entries at key slot [] own = ap (λ b. if b then slot ∷ [] else []) own
 taken_again entries at key slot (s ∷ slots) own = again_by entries at key slot s slots own (taken_again entries at key slot slots own) (is_before entries at key s) refl
 
@@ -113,7 +113,7 @@ slots_ranked entries (row ∷ rows) h k = (
 )
 
 -- a place parts a list in order
-pub ranked_parted : (entries : List Entry) (at : ℤ) (key : ℕ) (slots : List Slot) → AreRanked entries slots → IsParted (is_before entries at key) slots
+pub ranked_parted : (entries : List Entry) (at : ℤ) (key : ℕ) (slots : List GroupRow) → AreRanked entries slots → IsParted (is_before entries at key) slots
 ranked_parted entries at key [] h = tt
 ranked_parted entries at key (s ∷ slots) h = (
   λ not_own. every_weaker (λ o. is_before entries o.at (key_in entries o.handle) s ≡ true) (λ o. is_before entries at key o ≡ false) slots
@@ -240,7 +240,7 @@ there_under key table groups xs there = by_handle (handle_under key xs) refl
     by_handle (Some handle) e = refl
 
 -- how many rows stand before a place
-pub counted : (f : Member → Bool) (entries : List Entry) (cells : List ℤ) (slots : List Slot) (n : ℕ) → n ≤ length slots → AllByRecursion (λ s. f (member_at entries cells s) ≡ true) (take n slots) → AllByRecursion (λ s. f (member_at entries cells s) ≡ false) (drop n slots) → n ≡ count_by f (map (member_at entries cells) slots)
+pub counted : (f : Member → Bool) (entries : List Entry) (cells : List ℤ) (slots : List GroupRow) (n : ℕ) → n ≤ length slots → AllByRecursion (λ s. f (member_at entries cells s) ≡ true) (take n slots) → AllByRecursion (λ s. f (member_at entries cells s) ≡ false) (drop n slots) → n ≡ count_by f (map (member_at entries cells) slots)
 counted f entries cells [] zero le h k = refl
 counted f entries cells [] (suc n) le h k = absurd (omega arith)
 counted f entries cells (s ∷ slots) zero le h k =
@@ -262,34 +262,34 @@ counted f entries cells (s ∷ slots) (suc n) le h k =
     )
 
 -- a place behind all keys, and one before them
-pub counted_at_most : (entries : List Entry) (cells : List ℤ) (at : ℤ) (slots : List Slot) (n : ℕ) → AreHandled entries → n ≤ length slots → AllByRecursion (λ s. is_before entries at (2 ^ 62) s ≡ true) (take n slots) → AllByRecursion (λ s. is_before entries at (2 ^ 62) s ≡ false) (drop n slots) → n ≡ count_by (λ member. int_le member.at at) (map (member_at entries cells) slots)
+pub counted_at_most : (entries : List Entry) (cells : List ℤ) (at : ℤ) (slots : List GroupRow) (n : ℕ) → AreHandled entries → n ≤ length slots → AllByRecursion (λ s. is_before entries at (2 ^ 62) s ≡ true) (take n slots) → AllByRecursion (λ s. is_before entries at (2 ^ 62) s ≡ false) (drop n slots) → n ≡ count_by (λ member. int_le member.at at) (map (member_at entries cells) slots)
 counted_at_most entries cells at slots n handled le h k =
-    let same = λ (s : Slot). less_below s.at (key_in entries s.handle) at (2 ^ 62) (small_key s.handle entries handled) ∙ at_most s.at at in
+    let same = λ (s : GroupRow). less_below s.at (key_in entries s.handle) at (2 ^ 62) (small_key s.handle entries handled) ∙ at_most s.at at in
     counted (λ member. int_le member.at at) entries cells slots n le
     (every_weaker (λ s. is_before entries at (2 ^ 62) s ≡ true) (λ s. int_le s.at at ≡ true) (take n slots) (λ s e. sym (same s) ∙ e) h)
     (every_weaker (λ s. is_before entries at (2 ^ 62) s ≡ false) (λ s. int_le s.at at ≡ false) (drop n slots) (λ s e. sym (same s) ∙ e) k)
 
-pub counted_below : (entries : List Entry) (cells : List ℤ) (at : ℤ) (slots : List Slot) (n : ℕ) → n ≤ length slots → AllByRecursion (λ s. is_before entries at 0 s ≡ true) (take n slots) → AllByRecursion (λ s. is_before entries at 0 s ≡ false) (drop n slots) → n ≡ count_by (λ member. int_lt member.at at) (map (member_at entries cells) slots)
+pub counted_below : (entries : List Entry) (cells : List ℤ) (at : ℤ) (slots : List GroupRow) (n : ℕ) → n ≤ length slots → AllByRecursion (λ s. is_before entries at 0 s ≡ true) (take n slots) → AllByRecursion (λ s. is_before entries at 0 s ≡ false) (drop n slots) → n ≡ count_by (λ member. int_lt member.at at) (map (member_at entries cells) slots)
 counted_below entries cells at slots n le h k =
-    let same = λ (s : Slot). less_above s.at (key_in entries s.handle) at 0 (omega arith) in
+    let same = λ (s : GroupRow). less_above s.at (key_in entries s.handle) at 0 (omega arith) in
     counted (λ member. int_lt member.at at) entries cells slots n le
     (every_weaker (λ s. is_before entries at 0 s ≡ true) (λ s. int_lt s.at at ≡ true) (take n slots) (λ s e. sym (same s) ∙ e) h)
     (every_weaker (λ s. is_before entries at 0 s ≡ false) (λ s. int_lt s.at at ≡ false) (drop n slots) (λ s e. sym (same s) ∙ e) k)
 
 -- where the last row is not later than a time, none is, and where the first is not earlier, none is
-pub all_at_most : (entries : List Entry) (cells : List ℤ) (at : ℤ) (slots : List Slot) (last : Slot) → AreHandled entries → AreRanked entries slots → slice_get slots (length slots - 1) ≡ Some last → int_le last.at at ≡ true → length slots ≡ count_by (λ member. int_le member.at at) (map (member_at entries cells) slots)
+pub all_at_most : (entries : List Entry) (cells : List ℤ) (at : ℤ) (slots : List GroupRow) (last : GroupRow) → AreHandled entries → AreRanked entries slots → slice_get slots (length slots - 1) ≡ Some last → int_le last.at at ≡ true → length slots ≡ count_by (λ member. int_le member.at at) (map (member_at entries cells) slots)
 all_at_most entries cells at slots last handled ranked is le =
     counted_at_most entries cells at slots (length slots) handled (omega arith)
     (passed_all (is_before entries at (2 ^ 62)) slots (length slots) last refl is (ranked_parted entries at (2 ^ 62) slots ranked) (less_below last.at (key_in entries last.handle) at (2 ^ 62) (small_key last.handle entries handled) ∙ at_most last.at at ∙ le))
     (subst (AllByRecursion (λ s. is_before entries at (2 ^ 62) s ≡ false)) (sym (drop_all (length slots) slots (omega arith))) tt)
 
-pub none_below : (entries : List Entry) (cells : List ℤ) (at : ℤ) (slots : List Slot) (first : Slot) → AreRanked entries slots → slice_get slots 0 ≡ Some first → int_lt first.at at ≡ false → 0 ≡ count_by (λ member. int_lt member.at at) (map (member_at entries cells) slots)
+pub none_below : (entries : List Entry) (cells : List ℤ) (at : ℤ) (slots : List GroupRow) (first : GroupRow) → AreRanked entries slots → slice_get slots 0 ≡ Some first → int_lt first.at at ≡ false → 0 ≡ count_by (λ member. int_lt member.at at) (map (member_at entries cells) slots)
 none_below entries cells at slots first ranked is not_lt =
     counted_below entries cells at slots 0 (omega arith) tt
     (failed_all (is_before entries at 0) slots first is (ranked_parted entries at 0 slots ranked) (less_above first.at (key_in entries first.handle) at 0 (omega arith) ∙ not_lt))
 
 -- the row at a position, in its list and in its group
-pub slot_of_member : {X : Type 0} (f : Member → X) (entries : List Entry) (cells : List ℤ) (slots : List Slot) (i : ℕ) → slice_get (map f (map (member_at entries cells) slots)) i ≡ option_map (λ s. f (member_at entries cells s)) (slice_get slots i)
+pub slot_of_member : {X : Type 0} (f : Member → X) (entries : List Entry) (cells : List ℤ) (slots : List GroupRow) (i : ℕ) → slice_get (map f (map (member_at entries cells) slots)) i ≡ option_map (λ s. f (member_at entries cells s)) (slice_get slots i)
 slot_of_member f entries cells [] i = refl
 slot_of_member f entries cells (s ∷ slots) zero = refl
 slot_of_member f entries cells (s ∷ slots) (suc i) = slot_of_member f entries cells slots i

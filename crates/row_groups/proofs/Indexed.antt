@@ -4,7 +4,7 @@ use Rattle.std.{specs.List.AllByRecursion, proofs.lemmas.Bool.{cases_eq, eq-eqb}
 use Rattle.key_lists.{specs.Keys.is_among, proofs.Every.{every, every_both, every_weaker, every_unmapped, every-filter, every-map, filter-map, filter_passes}}
 use Rattle.tick_model.{specs.Tables.same_cells, specs.declared.update.ShiftRange.ShiftRange, specs.Shifts.{moved, as_key}, specs.Rules.shift_fault}
 use Rattle.row_handles.{specs.Entries.{AreHandled, Entry, entry_of, handle_under, key_with, keys_of, left_rows, moved_row, moved_rows, with_row}, proofs.EntryLists.ascend-filter, proofs.Laws.{handle_under-left, key_under_handle}}
-use Rattle.row_groups.{specs.declared.table.Table.Table, specs.declared.index.Index.Index, specs.declared.lists.Lists.Lists, specs.declared.place.Slot.Slot, specs.Members.{Grouped, Member, left_members, member_of, moved_members, with_member}, specs.Slots.{IsGroup, slots_with, slots_without}, specs.Rows.{AreListed, AreNumbered, Becomes, ByNumber, IsKept, IsSame, Row, at_in, cells_in, group_rows, members_of, row_of, row_placed, rows_by_at, rows_of, slot_of, slots_numbered, slots_under, cells_with, kept_in}, specs.Indexes.{Holds, IsIndex}, proofs.Ranks.with_row as row_among, proofs.Keys.{ascending, every-with_row, handled_left, handled_moved, handled_with, known_all, left_again, left_missing, left_more, left_none, restored, under_has}, proofs.Listed.under_number, proofs.Groupings.{listed_group, listed_with, listed_without, members_left, members_moved, members_with, rows_ascend, rows_known, rows_same, rows_with}}
+use Rattle.row_groups.{specs.declared.table.Table.Table, specs.declared.index.GroupIndex.GroupIndex, specs.declared.lists.Lists.Lists, specs.declared.place.GroupRow.GroupRow, specs.Members.{Grouped, Member, left_members, member_of, moved_members, with_member}, specs.Slots.{IsGroup, slots_with, slots_without}, specs.Rows.{AreListed, AreNumbered, Becomes, ByNumber, IsKept, IsSame, Row, at_in, cells_in, group_rows, members_of, row_of, row_placed, rows_by_at, rows_of, slot_of, slots_numbered, slots_under, cells_with, kept_in}, specs.Indexes.{Holds, IsIndex}, proofs.Ranks.with_row as row_among, proofs.Keys.{ascending, every-with_row, handled_left, handled_moved, handled_with, known_all, left_again, left_missing, left_more, left_none, restored, under_has}, proofs.Listed.under_number, proofs.Groupings.{listed_group, listed_with, listed_without, members_left, members_moved, members_with, rows_ascend, rows_known, rows_same, rows_with}}
 
 -- rows under other keys
 abbrev move : (ℕ → ℕ) → Row → Row
@@ -43,10 +43,10 @@ listed_move table shifts xs lists listed cells =
     ∙ ap (map slot_of) (group_move f cells (rows_of table lists.groups xs) ∙ ap (group_rows cells) (sym (rows_move table lists.groups shifts xs)))
 
 -- an index with other handles
-abbrev handled : Index → List Entry → Index
+abbrev handled : GroupIndex → List Entry → GroupIndex
 handled index entries = record index { handles = entries }
 
-moved_index : (shifts : List ShiftRange) (index : Index) → IsIndex index → shift_fault (2 ^ 62) shifts (keys_of index.handles) ≡ None → IsIndex (handled index (moved_rows shifts index.handles))
+moved_index : (shifts : List ShiftRange) (index : GroupIndex) → IsIndex index → shift_fault (2 ^ 62) shifts (keys_of index.handles) ≡ None → IsIndex (handled index (moved_rows shifts index.handles))
 moved_index shifts index is lawful = record {
   handled = handled_moved shifts index.handles is.handled lawful;
   kept = every-map (λ x. IsKept index.width index.table index.lists.groups x.handle) (moved_row shifts) index.handles is.kept;
@@ -54,7 +54,7 @@ moved_index shifts index is lawful = record {
   numbered = is.numbered;
 }
 
-pub index_moved : {T E : Type 0} (result : Result T E) (shifts : List ShiftRange) (index : Index) (entries : List Entry) → IsIndex index → shift_fault (2 ^ 62) shifts (keys_of index.handles) ≡ None → OnOk result (entries ≡ moved_rows shifts index.handles) → OnErr result (entries ≡ index.handles) → IsIndex (handled index entries)
+pub index_moved : {T E : Type 0} (result : Result T E) (shifts : List ShiftRange) (index : GroupIndex) (entries : List Entry) → IsIndex index → shift_fault (2 ^ 62) shifts (keys_of index.handles) ≡ None → OnOk result (entries ≡ moved_rows shifts index.handles) → OnErr result (entries ≡ index.handles) → IsIndex (handled index entries)
 index_moved (Ok x) shifts index entries is lawful ok err = subst (λ xs. IsIndex (handled index xs)) (sym ok) (moved_index shifts index is lawful)
 index_moved (Err e) shifts index entries is lawful ok err = subst (λ xs. IsIndex (handled index xs)) (sym err) is
 
@@ -102,7 +102,7 @@ kept_on width handle old new groups others stays cells other apart is =
     }
 
 -- what is known in an index of some of the rows
-pub holds_group : (gone : List ℕ) (index : Index) (cells : List ℤ) → Holds (left_rows gone index.handles) index → IsGroup index.handles (slots_under cells index.lists)
+pub holds_group : (gone : List ℕ) (index : GroupIndex) (cells : List ℤ) → Holds (left_rows gone index.handles) index → IsGroup index.handles (slots_under cells index.lists)
 holds_group gone index cells is =
     let p = λ (x : Entry). not (is_among x.key gone) in
     listed_group index.handles index.table index.lists.groups (left_rows gone index.handles) index.lists cells is.listed
@@ -120,7 +120,7 @@ becomes_same cells rows old new becomes listed other = by_test (same_cells cells
     by_test false e = becomes other ∙ ap (λ b. if b then slots_under cells old else slots_under other old) e ∙ listed other
 
 -- an index of some rows, of which it keeps the same
-pub holds_as : (xs : List Entry) (index : Index) (table : Table) (lists : Lists) → Holds xs index → AllByRecursion (λ x. IsSame index.table index.lists.groups table lists.groups x.handle) xs → AreListed (rows_of index.table index.lists.groups xs) lists → AreNumbered lists → Holds xs (record index { table = table; lists = lists })
+pub holds_as : (xs : List Entry) (index : GroupIndex) (table : Table) (lists : Lists) → Holds xs index → AllByRecursion (λ x. IsSame index.table index.lists.groups table lists.groups x.handle) xs → AreListed (rows_of index.table index.lists.groups xs) lists → AreNumbered lists → Holds xs (record index { table = table; lists = lists })
 holds_as xs index table lists is same listed numbered = record {
   handled = is.handled;
   kept = kept_same index.table index.lists.groups table lists.groups index.width xs is.kept same;
@@ -129,7 +129,7 @@ holds_as xs index table lists is same listed numbered = record {
 }
 
 -- a row that comes into an index of the others
-pub record Enters (key handle : ℕ) (cells : List ℤ) (at : ℤ) (index : Index) (table : Table) (lists : Lists) : Type 0 where
+pub record Enters (key handle : ℕ) (cells : List ℤ) (at : ℤ) (index : GroupIndex) (table : Table) (lists : Lists) : Type 0 where
   pub others : Holds (left_rows (key ∷ []) index.handles) index
   pub here : handle_under key index.handles ≡ Some handle
   pub within : handle < length table.rows.items
@@ -142,7 +142,7 @@ pub record Enters (key handle : ℕ) (cells : List ℤ) (at : ℤ) (index : Inde
 abbrev entered : ℕ → ℕ → List ℤ → ℤ → Row
 entered key handle cells at = record { member = member_of key cells at; handle = handle }
 
-pub rows_entered : (key handle : ℕ) (cells : List ℤ) (at : ℤ) (index : Index) (table : Table) (lists : Lists) → Enters key handle cells at index table lists → rows_of table lists.groups index.handles ≡ row_among (entered key handle cells at) (rows_of index.table index.lists.groups (left_rows (key ∷ []) index.handles))
+pub rows_entered : (key handle : ℕ) (cells : List ℤ) (at : ℤ) (index : GroupIndex) (table : Table) (lists : Lists) → Enters key handle cells at index table lists → rows_of table lists.groups index.handles ≡ row_among (entered key handle cells at) (rows_of index.table index.lists.groups (left_rows (key ∷ []) index.handles))
 rows_entered key handle cells at index table lists e =
     let rest = left_rows (key ∷ []) index.handles in
     let rows = rows_of index.table index.lists.groups rest in
@@ -152,7 +152,7 @@ rows_entered key handle cells at index table lists e =
     ∙ ap (λ (cs : Option (List ℤ)). row_among (entered key handle (unwrap_or cs []) (at_in table handle)) rows) e.cells_is
     ∙ ap (λ a. row_among (entered key handle cells a) rows) e.at_is
 
-pub index_entered : (key handle : ℕ) (cells : List ℤ) (at : ℤ) (index : Index) (table : Table) (lists : Lists) → Enters key handle cells at index table lists → Becomes cells (slots_with index.handles at key (slot_of (entered key handle cells at)) (slots_under cells index.lists)) index.lists lists → IsIndex (record index { table = table; lists = lists })
+pub index_entered : (key handle : ℕ) (cells : List ℤ) (at : ℤ) (index : GroupIndex) (table : Table) (lists : Lists) → Enters key handle cells at index table lists → Becomes cells (slots_with index.handles at key (slot_of (entered key handle cells at)) (slots_under cells index.lists)) index.lists lists → IsIndex (record index { table = table; lists = lists })
 index_entered key handle cells at index table lists e becomes =
     let rest = left_rows (key ∷ []) index.handles in
     let p = λ (x : Entry). not (is_among x.key (key ∷ [])) in
@@ -173,12 +173,12 @@ index_entered key handle cells at index table lists e becomes =
       numbered = e.numbered;
     }
 
-pub members_entered : (key handle : ℕ) (cells : List ℤ) (at : ℤ) (index : Index) (table : Table) (lists : Lists) → Enters key handle cells at index table lists → members_of (rows_of table lists.groups index.handles) ≡ with_member (member_of key cells at) (members_of (rows_of index.table index.lists.groups (left_rows (key ∷ []) index.handles)))
+pub members_entered : (key handle : ℕ) (cells : List ℤ) (at : ℤ) (index : GroupIndex) (table : Table) (lists : Lists) → Enters key handle cells at index table lists → members_of (rows_of table lists.groups index.handles) ≡ with_member (member_of key cells at) (members_of (rows_of index.table index.lists.groups (left_rows (key ∷ []) index.handles)))
 members_entered key handle cells at index table lists e =
     ap members_of (rows_entered key handle cells at index table lists e) ∙ members_with (entered key handle cells at) (rows_of index.table index.lists.groups (left_rows (key ∷ []) index.handles))
 
 -- before a row is entered: its handle is there
-pub holds_before : (key handle : ℕ) (index : Index) (entries : List Entry) → IsIndex index → key < 2 ^ 62 → handle_under key index.handles ≡ None → key_with handle index.handles ≡ None → entries ≡ with_row key handle index.handles → Holds (left_rows (key ∷ []) entries) (handled index entries)
+pub holds_before : (key handle : ℕ) (index : GroupIndex) (entries : List Entry) → IsIndex index → key < 2 ^ 62 → handle_under key index.handles ≡ None → key_with handle index.handles ≡ None → entries ≡ with_row key handle index.handles → Holds (left_rows (key ∷ []) entries) (handled index entries)
 holds_before key handle index entries is small absent fresh handles =
     let back : left_rows (key ∷ []) entries ≡ index.handles = ap (left_rows (key ∷ [])) handles ∙ left_again key handle index.handles (ascending index.handles is.handled) absent in
     subst (λ xs. Holds xs (handled index entries)) (sym back) (record {
@@ -189,7 +189,7 @@ holds_before key handle index entries is small absent fresh handles =
     })
 
 -- rows that left the groups leave the handles
-pub index_left : (gone : List ℕ) (index : Index) (entries : List Entry) → Holds (left_rows gone index.handles) index → entries ≡ left_rows gone index.handles → IsIndex (handled index entries)
+pub index_left : (gone : List ℕ) (index : GroupIndex) (entries : List Entry) → Holds (left_rows gone index.handles) index → entries ≡ left_rows gone index.handles → IsIndex (handled index entries)
 index_left gone index entries is left =
     subst (λ xs. IsIndex (handled index xs)) (sym left) (record { handled = handled_left gone index.handles is.handled; kept = is.kept; listed = is.listed; numbered = is.numbered })
 
@@ -229,7 +229,7 @@ module _ (table : Table) (old new : Lists) (number : ℕ) (cells : List ℤ) (ow
   own_rows x e =
       (signed_items cells (row_of table old.groups x).member.cells).1 (sym (ap (λ n. unwrap_or (cells_with n old.groups) []) e ∙ ap (λ (cs : Option (List ℤ)). unwrap_or cs []) own))
 
-  stays_with : (xs : List Entry) (slots : List Slot) → slots ≡ map slot_of (group_rows cells (rows_of table old.groups xs)) → (slots ≢ [] → cells_with number new.groups ≡ cells_with number old.groups) → AllByRecursion (λ x. (kept_in table x.handle).number ≡ number → cells_with number new.groups ≡ cells_with number old.groups) xs
+  stays_with : (xs : List Entry) (slots : List GroupRow) → slots ≡ map slot_of (group_rows cells (rows_of table old.groups xs)) → (slots ≢ [] → cells_with number new.groups ≡ cells_with number old.groups) → AllByRecursion (λ x. (kept_in table x.handle).number ≡ number → cells_with number new.groups ≡ cells_with number old.groups) xs
   stays_with xs [] is stays =
       every_weaker (λ x. same_cells cells (row_of table old.groups x).member.cells ≡ false) (λ x. (kept_in table x.handle).number ≡ number → cells_with number new.groups ≡ cells_with number old.groups) xs
       (λ x differ e. absurd (true_not_false (sym (own_rows x e) ∙ differ)))
@@ -237,10 +237,10 @@ module _ (table : Table) (old new : Lists) (number : ℕ) (cells : List ℤ) (ow
       (none_alike cells (rows_of table old.groups xs) (none_ordered (filter (λ row. same_cells cells row.member.cells) (rows_of table old.groups xs)) (no_slots (group_rows cells (rows_of table old.groups xs)) (sym is)))))
   stays_with xs (slot ∷ slots) is stays = every (λ x. (kept_in table x.handle).number ≡ number → cells_with number new.groups ≡ cells_with number old.groups) xs (λ x e. stays (λ f. no_slot f))
     where
-      no_slot : ◌≡◌ {A = List Slot} (slot ∷ slots) [] → ⊥
+      no_slot : ◌≡◌ {A = List GroupRow} (slot ∷ slots) [] → ⊥
       no_slot f = cc
 
-  pub rest_same : (width : ℕ) (xs : List Entry) (slots : List Slot) → slots ≡ map slot_of (group_rows cells (rows_of table old.groups xs)) → (slots ≢ [] → cells_with number new.groups ≡ cells_with number old.groups) → ((other : ℕ) → other ≢ number → cells_with other new.groups ≡ cells_with other old.groups)
+  pub rest_same : (width : ℕ) (xs : List Entry) (slots : List GroupRow) → slots ≡ map slot_of (group_rows cells (rows_of table old.groups xs)) → (slots ≢ [] → cells_with number new.groups ≡ cells_with number old.groups) → ((other : ℕ) → other ≢ number → cells_with other new.groups ≡ cells_with other old.groups)
       → AllByRecursion (λ x. IsKept width table old.groups x.handle) xs → AllByRecursion (λ x. IsSame table old.groups table new.groups x.handle) xs
   rest_same width xs slots is stays others kept =
       every_both (λ x. IsKept width table old.groups x.handle) (λ x. (kept_in table x.handle).number ≡ number → cells_with number new.groups ≡ cells_with number old.groups) (λ x. IsSame table old.groups table new.groups x.handle) xs
@@ -254,7 +254,7 @@ module _ (table : Table) (old new : Lists) (number : ℕ) (cells : List ℤ) (ow
       }) kept (stays_with xs slots is stays)
 
 -- a row that leaves its group
-pub record Leaves (key handle : ℕ) (index : Index) (lists : Lists) : Type 0 where
+pub record Leaves (key handle : ℕ) (index : GroupIndex) (lists : Lists) : Type 0 where
   pub here : handle_under key index.handles ≡ Some handle
   pub becomes : Becomes (cells_in index.table index.lists.groups handle) (slots_without index.handles (at_in index.table handle) key (slots_under (cells_in index.table index.lists.groups handle) index.lists)) index.lists lists
   pub stays : slots_without index.handles (at_in index.table handle) key (slots_numbered (kept_in index.table handle).number index.lists.groups) ≢ [] → cells_with (kept_in index.table handle).number lists.groups ≡ cells_with (kept_in index.table handle).number index.lists.groups
@@ -266,7 +266,7 @@ pub some_cells : (cells : Option (List ℤ)) → IsSome cells → cells ≡ Some
 some_cells None there = absurd (cc)
 some_cells (Some cells) there = refl
 
-pub left_same : (gone : List ℕ) (key handle : ℕ) (index : Index) (lists : Lists) → Holds (left_rows gone index.handles) index → is_among key gone ≡ false → Leaves key handle index lists
+pub left_same : (gone : List ℕ) (key handle : ℕ) (index : GroupIndex) (lists : Lists) → Holds (left_rows gone index.handles) index → is_among key gone ≡ false → Leaves key handle index lists
     → AreListed (rows_of index.table index.lists.groups (left_rows (gone ++ key ∷ []) index.handles)) lists × AllByRecursion (λ x. IsSame index.table index.lists.groups index.table lists.groups x.handle) (left_rows (gone ++ key ∷ []) index.handles)
 left_same gone key handle index lists is fresh leaves =
     let table = index.table in
@@ -300,7 +300,7 @@ left_same gone key handle index lists is fresh leaves =
     (listed, rest_same table index.lists lists number cells own index.width rest (without (slots_numbered number groups)) slots leaves.stays leaves.others (every-filter (λ x. IsKept index.width table groups x.handle) p all is.kept))
 
 -- an index from which the rows under some of the keys are gone
-pub record AreGone (keys : List ℕ) (old new : Index) : Type 0 where
+pub record AreGone (keys : List ℕ) (old new : GroupIndex) : Type 0 where
   pub holds : Holds (left_rows keys new.handles) new
   pub handles : new.handles ≡ old.handles
   pub table : new.table ≡ old.table
@@ -308,7 +308,7 @@ pub record AreGone (keys : List ℕ) (old new : Index) : Type 0 where
   pub same : AllByRecursion (λ x. IsSame old.table old.lists.groups new.table new.lists.groups x.handle) (left_rows keys new.handles)
   pub fewer : (other : ℕ) (cells : List ℤ) → cells_with other new.lists.groups ≡ Some cells → cells_with other old.lists.groups ≡ Some cells
 
-pub none_gone : (index : Index) → IsIndex index → AreGone [] index index
+pub none_gone : (index : GroupIndex) → IsIndex index → AreGone [] index index
 none_gone index is = record {
   holds = subst (λ xs. Holds xs index) (sym (left_none index.handles)) is;
   handles = refl;
@@ -319,7 +319,7 @@ none_gone index is = record {
   fewer = λ other cells e. e;
 }
 
-pub step_missing : (gone : List ℕ) (key : ℕ) (old index : Index) → AreGone gone old index → is_among key gone ≡ false → handle_under key index.handles ≡ None → AreGone (gone ++ key ∷ []) old index
+pub step_missing : (gone : List ℕ) (key : ℕ) (old index : GroupIndex) → AreGone gone old index → is_among key gone ≡ false → handle_under key index.handles ≡ None → AreGone (gone ++ key ∷ []) old index
 step_missing gone key old index is new none =
     let same : left_rows gone index.handles ≡ left_rows (gone ++ key ∷ []) index.handles =
     sym (left_more gone key index.handles ∙ left_missing key (left_rows gone index.handles) (still_under gone key index.handles new ∙ none)) in
@@ -332,7 +332,7 @@ step_missing gone key old index is new none =
       fewer = is.fewer;
     }
 
-pub step_less : (gone : List ℕ) (key handle : ℕ) (old index : Index) (lists : Lists) → AreGone gone old index → is_among key gone ≡ false → Leaves key handle index lists → AreGone (gone ++ key ∷ []) old (record index { lists = lists })
+pub step_less : (gone : List ℕ) (key handle : ℕ) (old index : GroupIndex) (lists : Lists) → AreGone gone old index → is_among key gone ≡ false → Leaves key handle index lists → AreGone (gone ++ key ∷ []) old (record index { lists = lists })
 step_less gone key handle old index lists is new leaves =
     let all = left_rows gone index.handles in
     let p = λ (x : Entry). not (is_among x.key (key ∷ [])) in
@@ -357,19 +357,19 @@ step_less gone key handle old index lists is new leaves =
     }
 
 -- what is kept of the row of a key
-pub kept_of : (gone : List ℕ) (key handle : ℕ) (index : Index) → Holds (left_rows gone index.handles) index → is_among key gone ≡ false → handle_under key index.handles ≡ Some handle → IsKept index.width index.table index.lists.groups handle
+pub kept_of : (gone : List ℕ) (key handle : ℕ) (index : GroupIndex) → Holds (left_rows gone index.handles) index → is_among key gone ≡ false → handle_under key index.handles ≡ Some handle → IsKept index.width index.table index.lists.groups handle
 kept_of gone key handle index is new here =
     under_has (λ x. IsKept index.width index.table index.lists.groups x.handle) key handle (left_rows gone index.handles) is.kept (still_under gone key index.handles new ∙ here)
 
 -- the group of the row of a key
-pub group_there : (gone : List ℕ) (key handle : ℕ) (index : Index) → Holds (left_rows gone index.handles) index → is_among key gone ≡ false → handle_under key index.handles ≡ Some handle → IsGroup index.handles (slots_numbered (kept_in index.table handle).number index.lists.groups)
+pub group_there : (gone : List ℕ) (key handle : ℕ) (index : GroupIndex) → Holds (left_rows gone index.handles) index → is_among key gone ≡ false → handle_under key index.handles ≡ Some handle → IsGroup index.handles (slots_numbered (kept_in index.table handle).number index.lists.groups)
 group_there gone key handle index is new here =
     let number = (kept_in index.table handle).number in
     let cells = cells_in index.table index.lists.groups handle in
     let own = some_cells (cells_with number index.lists.groups) (kept_of gone key handle index is new here).there in
     subst (IsGroup index.handles) (under_number cells number index.lists (is.numbered.cells cells number own)) (holds_group gone index cells is)
 
-pub members_removed : (keys : List ℕ) (old index : Index) (entries : List Entry) → AreGone keys old index → entries ≡ left_rows keys index.handles → members_of (rows_of index.table index.lists.groups entries) ≡ left_members keys (members_of (rows_of old.table old.lists.groups old.handles))
+pub members_removed : (keys : List ℕ) (old index : GroupIndex) (entries : List Entry) → AreGone keys old index → entries ≡ left_rows keys index.handles → members_of (rows_of index.table index.lists.groups entries) ≡ left_members keys (members_of (rows_of old.table old.lists.groups old.handles))
 members_removed keys old index entries gone left =
     ap (λ xs. members_of (rows_of index.table index.lists.groups xs)) left
     ∙ ap members_of (rows_same old.table old.lists.groups index.table index.lists.groups (left_rows keys index.handles) gone.same)

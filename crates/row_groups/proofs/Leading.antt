@@ -2,7 +2,7 @@
 use Rattle.std.proofs.Common.{◌≡◌, refl, ap, sym, ◌∙◌, subst, Bool, true, false, List, [], ◌∷◌, length, ◌++◌, ◌+◌, get_or, arith, ℕ, ◌<◌, ℤ, pos, negsuc, Option, Some, None, if◌then◌else◌}
 use Rattle.std.{specs.Prelude.nat_lt, specs.Option.option_map_or, specs.Map.KeepsOthers, specs.HashMap.{UpdatesBy, get_by}, specs.Ordering.int_eq, specs.Cmp.Lexicographic.pointwise, specs.Cmp.Rules.signed_items, specs.Global.Vec, proofs.lemmas.Bool.{false_from_ne_true, lt-ltb, ltb-false, ltb-true}, proofs.lemmas.List.{get_or_append_left, get_or_push, length_push}, proofs.lemmas.Option.{none-some, same_Some}}
 use Rattle.tick_model.specs.Tables.{same_cells}
-use Rattle.row_groups.{specs.declared.numbers.Numbers.Numbers, specs.Rows.{Leads, number_below, number_under, place_in, single_cell}, proofs.Parts.unlike}
+use Rattle.row_groups.{specs.declared.numbers.GroupNumbers.GroupNumbers, specs.Rows.{Leads, number_below, number_under, place_in, single_cell}, proofs.Parts.unlike}
 
 abbrev pub same_key : Vec ℤ → Vec ℤ → Bool
 same_key x y = pointwise int_eq x.items y.items
@@ -11,14 +11,14 @@ abbrev pub has_cells : List ℤ → Vec ℤ → Bool
 has_cells cells key = same_cells cells key.items
 
 -- the number under other cells stays where that under some cells changes
-pub renumbered : (cells other : List ℤ) (old new : Numbers) (number : Option ℕ) → Leads cells number old new → same_cells cells other ≡ false → number_under other new ≡ number_under other old
+pub renumbered : (cells other : List ℤ) (old new : GroupNumbers) (number : Option ℕ) → Leads cells number old new → same_cells cells other ≡ false → number_under other new ≡ number_under other old
 renumbered cells other old new number leads e = leads other ∙ ap (λ b. if b then number else number_under other old) e
 
-pub numbered_as : (cells : List ℤ) (old new : Numbers) (number : Option ℕ) → Leads cells number old new → number_under cells new ≡ number
+pub numbered_as : (cells : List ℤ) (old new : GroupNumbers) (number : Option ℕ) → Leads cells number old new → number_under cells new ≡ number
 numbered_as cells old new number leads = leads cells ∙ ap (λ b. if b then number else number_under cells old) ((signed_items cells cells).1 refl)
 
 -- it is enough to look at these cells and at the others
-leads_by : (cells : List ℤ) (number : Option ℕ) (old new : Numbers) → number_under cells new ≡ number → ((other : List ℤ) → same_cells cells other ≡ false → number_under other new ≡ number_under other old) → Leads cells number old new
+leads_by : (cells : List ℤ) (number : Option ℕ) (old new : GroupNumbers) → number_under cells new ≡ number → ((other : List ℤ) → same_cells cells other ≡ false → number_under other new ≡ number_under other old) → Leads cells number old new
 leads_by cells number old new own others other = by_test (same_cells cells other) refl
   where
     by_test : (b : Bool) → same_cells cells other ≡ b → number_under other new ≡ (if b then number else number_under other old)
@@ -44,14 +44,14 @@ place_is cells by_cell place e = by_single (single_cell cells) refl e
     by_single None single same = absurd (none-some place same)
     by_single (Some n) single same = by_test n single (nat_lt n (length by_cell)) refl same
 
-at_place : (cells : List ℤ) (place : ℕ) (numbers : Numbers) → place_in cells numbers.by_cell.items ≡ Some place → number_under cells numbers ≡ number_below (get_or numbers.by_cell.items place 0)
+at_place : (cells : List ℤ) (place : ℕ) (numbers : GroupNumbers) → place_in cells numbers.by_cell.items ≡ Some place → number_under cells numbers ≡ number_below (get_or numbers.by_cell.items place 0)
 at_place cells place numbers e = ap (λ p. option_map_or (λ n. number_below (get_or numbers.by_cell.items n 0)) p (get_by (has_cells cells) numbers.by_cells)) e
 
-by_hash : (cells : List ℤ) (numbers : Numbers) → place_in cells numbers.by_cell.items ≡ None → number_under cells numbers ≡ get_by (has_cells cells) numbers.by_cells
+by_hash : (cells : List ℤ) (numbers : GroupNumbers) → place_in cells numbers.by_cell.items ≡ None → number_under cells numbers ≡ get_by (has_cells cells) numbers.by_cells
 by_hash cells numbers e = ap (λ p. option_map_or (λ n. number_below (get_or numbers.by_cell.items n 0)) p (get_by (has_cells cells) numbers.by_cells)) e
 
 -- the number under some cells stays where those with a place have the same there, and the others the same in the map
-stays : (other : List ℤ) (old new : Numbers) → place_in other new.by_cell.items ≡ place_in other old.by_cell.items → ((place : ℕ) → place_in other old.by_cell.items ≡ Some place → get_or new.by_cell.items place 0 ≡ get_or old.by_cell.items place 0) → (place_in other old.by_cell.items ≡ None → get_by (has_cells other) new.by_cells ≡ get_by (has_cells other) old.by_cells) → number_under other new ≡ number_under other old
+stays : (other : List ℤ) (old new : GroupNumbers) → place_in other new.by_cell.items ≡ place_in other old.by_cell.items → ((place : ℕ) → place_in other old.by_cell.items ≡ Some place → get_or new.by_cell.items place 0 ≡ get_or old.by_cell.items place 0) → (place_in other old.by_cell.items ≡ None → get_by (has_cells other) new.by_cells ≡ get_by (has_cells other) old.by_cells) → number_under other new ≡ number_under other old
 stays other old new places listed hashed = by_place (place_in other old.by_cell.items) refl
   where
     by_place : (p : Option ℕ) → place_in other old.by_cell.items ≡ p → number_under other new ≡ number_under other old
@@ -66,11 +66,11 @@ apart_keys : (cells other : List ℤ) → same_cells cells other ≡ false → (
 apart_keys cells other e key h =
     false_from_ne_true (has_cells other key) (λ own. unlike (same_cells cells other) ((signed_items cells other).1 ((signed_items cells key.items).0 h ∙ sym ((signed_items other key.items).0 own))) e)
 
-hashed_apart : (cells other : List ℤ) (number : Option ℕ) (old new : Numbers) → UpdatesBy same_key (has_cells cells) old.by_cells new.by_cells number → same_cells cells other ≡ false → get_by (has_cells other) new.by_cells ≡ get_by (has_cells other) old.by_cells
+hashed_apart : (cells other : List ℤ) (number : Option ℕ) (old new : GroupNumbers) → UpdatesBy same_key (has_cells cells) old.by_cells new.by_cells number → same_cells cells other ≡ false → get_by (has_cells other) new.by_cells ≡ get_by (has_cells other) old.by_cells
 unfolding KeepsOthers
 hashed_apart cells other number old new updates differ = updates.3 (has_cells other) (key_test other) (apart_keys cells other differ)
 
-pub leads_hashed : (cells : List ℤ) (number : Option ℕ) (old new : Numbers) → place_in cells old.by_cell.items ≡ None → new.by_cell ≡ old.by_cell → UpdatesBy same_key (has_cells cells) old.by_cells new.by_cells number → Leads cells number old new
+pub leads_hashed : (cells : List ℤ) (number : Option ℕ) (old new : GroupNumbers) → place_in cells old.by_cell.items ≡ None → new.by_cell ≡ old.by_cell → UpdatesBy same_key (has_cells cells) old.by_cells new.by_cells number → Leads cells number old new
 unfolding KeepsOthers
 leads_hashed cells number old new none list updates =
     leads_by cells number old new (by_hash cells new (ap (λ (l : Vec ℕ). place_in cells l.items) list ∙ none) ∙ updates.1)
@@ -79,7 +79,7 @@ leads_hashed cells number old new none list updates =
     (λ e. hashed_apart cells other number old new updates differ))
 
 -- where the next cell gets a place in the list, and its number goes there
-module _ (old new : Numbers) (above : ℕ) (list : new.by_cell.items ≡ old.by_cell.items ++ above ∷ []) (is : number_below above ≡ get_by (has_cells (pos (length old.by_cell.items) ∷ [])) old.by_cells)
+module _ (old new : GroupNumbers) (above : ℕ) (list : new.by_cell.items ≡ old.by_cell.items ++ above ∷ []) (is : number_below above ≡ get_by (has_cells (pos (length old.by_cell.items) ∷ [])) old.by_cells)
     (updates : UpdatesBy same_key (has_cells (pos (length old.by_cell.items) ∷ [])) old.by_cells new.by_cells None) where
   longer : length new.by_cell.items ≡ length old.by_cell.items + 1
   longer = ap length list ∙ length_push old.by_cell.items above
@@ -117,5 +117,5 @@ module _ (old new : Numbers) (above : ℕ) (list : new.by_cell.items ≡ old.by_
           at_place other n new e ∙ at_old n at.1 (nat_lt n (length old.by_cell.items)) refl ∙ ap (λ cs. number_under cs old) (sym at.0)
 
 -- the numbers are those of others, of which some become others
-pub leads_after : (cells : List ℤ) (number : Option ℕ) (old mid new : Numbers) → ((other : List ℤ) → number_under other mid ≡ number_under other old) → Leads cells number mid new → Leads cells number old new
+pub leads_after : (cells : List ℤ) (number : Option ℕ) (old mid new : GroupNumbers) → ((other : List ℤ) → number_under other mid ≡ number_under other old) → Leads cells number mid new → Leads cells number old new
 leads_after cells number old mid new same leads other = leads other ∙ ap (λ n. if same_cells cells other then number else n) (same other)

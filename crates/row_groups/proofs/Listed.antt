@@ -4,7 +4,7 @@ use Rattle.std.{specs.Option.option_map_or, specs.Prelude.slice_get, specs.List.
 use Rattle.slab.{specs.Slab.{get, with_value}, proofs.SlabLemmas.Updates-with_value}
 use Rattle.tick_model.specs.Tables.{same_cells}
 use Rattle.row_handles.specs.Entries.{Entry}
-use Rattle.row_groups.{specs.declared.lists.KeyedRows.KeyedRows, specs.declared.lists.Lists.Lists, specs.declared.place.Slot.Slot, specs.Slots.{is_before, IsParted, slots_with, slots_without}, proofs.Ends.{passed_all, put_last}, specs.Rows.{AreNumbered, Becomes, ByNumber, Leads, cells_with, number_under, slots_numbered, slots_under}, proofs.Leading.{numbered_as, renumbered}, proofs.Parts.unlike}
+use Rattle.row_groups.{specs.declared.lists.KeyedRows.KeyedRows, specs.declared.lists.Lists.Lists, specs.declared.place.GroupRow.GroupRow, specs.Slots.{is_before, IsParted, slots_with, slots_without}, proofs.Ends.{passed_all, put_last}, specs.Rows.{AreNumbered, Becomes, ByNumber, Leads, cells_with, number_under, slots_numbered, slots_under}, proofs.Leading.{numbered_as, renumbered}, proofs.Parts.unlike}
 
 -- the group with a number changes, which has these cells or is new
 pub record IsChange (cells : List ℤ) (number : ℕ) (old new : Lists) : Type 0 where
@@ -18,7 +18,7 @@ apart : (cells : List ℤ) (number : ℕ) (old new : Lists) → IsChange cells n
 apart cells number old new change other n differ under same =
     unlike (same_cells cells other) ((signed_items cells other).1 (sym (change.mine other (ap (λ m. cells_with m old.groups) (sym same) ∙ change.sound.numbers other n under)))) differ
 
-pub becomes : (cells : List ℤ) (number : ℕ) (slots : List Slot) (old new : Lists) → IsChange cells number old new → slots_under cells new ≡ slots → Becomes cells slots old new
+pub becomes : (cells : List ℤ) (number : ℕ) (slots : List GroupRow) (old new : Lists) → IsChange cells number old new → slots_under cells new ≡ slots → Becomes cells slots old new
 becomes cells number slots old new change own other = by_test (same_cells cells other) refl
   where
     by_number : (found : Option ℕ) → number_under other old.numbers ≡ found → same_cells cells other ≡ false → option_map_or (λ n. slots_numbered n new.groups) found [] ≡ option_map_or (λ n. slots_numbered n old.groups) found []
@@ -35,9 +35,9 @@ abbrev IsShort : Lists → Type 0
 IsShort lists = lists.crowded ≡ false → (cells : List ℤ) → length (slots_under cells lists) ≤ 1
 
 -- where a list becomes another
-stays_short : (cells : List ℤ) (slots : List Slot) (old new : Lists) → AreNumbered old → Becomes cells slots old new → (new.crowded ≡ false → (old.crowded ≡ false) × (length slots ≤ 1)) → IsShort new
+stays_short : (cells : List ℤ) (slots : List GroupRow) (old new : Lists) → AreNumbered old → Becomes cells slots old new → (new.crowded ≡ false → (old.crowded ≡ false) × (length slots ≤ 1)) → IsShort new
 stays_short cells slots old new sound becomes keeps calm other =
-    subst (λ (rows : List Slot). length rows ≤ 1) (sym (becomes other))
+    subst (λ (rows : List GroupRow). length rows ≤ 1) (sym (becomes other))
     (elim (same_cells cells other) as (λ b. length (if b then slots else slots_under other old) ≤ 1) [ true ↦ (keeps calm).1 | false ↦ sound.alone (keeps calm).0 other ])
 
 pub numbered : (cells : List ℤ) (number : ℕ) (old new : Lists) → IsChange cells number old new → ((other : ℕ) → number_under cells new.numbers ≡ Some other → (other ≡ number) × (cells_with number new.groups ≡ Some cells)) → ((other : List ℤ) → cells_with number new.groups ≡ Some other → (other ≡ cells) × (number_under cells new.numbers ≡ Some number)) → IsShort new → AreNumbered new
@@ -130,14 +130,14 @@ module _ (cells : List ℤ) (number : ℕ) (group : KeyedRows) (old new : Lists)
       (stays_short cells group.rows old new begins.sound begins_rows (λ calm. (sym begins.crowded ∙ calm, begins.only)))
 
 -- a group whose rows become others
-pub record Changes (number : ℕ) (group : KeyedRows) (rows : List Slot) (old new : Lists) : Type 0 where
+pub record Changes (number : ℕ) (group : KeyedRows) (rows : List GroupRow) (old new : Lists) : Type 0 where
   pub sound : AreNumbered old
   pub was : get old.groups number ≡ Some group
   pub numbers : new.numbers ≡ old.numbers
   pub put : get new.groups number ≡ Some (record group { rows = rows })
   pub others : (n : ℕ) → n ≢ number → get new.groups n ≡ get old.groups n
 
-module _ (number : ℕ) (group : KeyedRows) (rows : List Slot) (old new : Lists) (changes : Changes number group rows old new) where
+module _ (number : ℕ) (group : KeyedRows) (rows : List GroupRow) (old new : Lists) (changes : Changes number group rows old new) where
   changes_own : cells_with number old.groups ≡ Some group.cells.items
   changes_own = with_group number old.groups group changes.was
 
@@ -172,7 +172,7 @@ module _ (number : ℕ) (group : KeyedRows) (rows : List Slot) (old new : Lists)
     cells = λ cells n e. ap (number_under cells) changes.numbers ∙ changes.sound.cells cells n (sym (changes_cells n) ∙ e);
   }
 
-pub changed : (number : ℕ) (group : KeyedRows) (rows : List Slot) (old new : Lists) → AreNumbered old → get old.groups number ≡ Some group → new.numbers ≡ old.numbers → new.groups ≡ with_value old.groups number (record group { rows = rows }) → Changes number group rows old new
+pub changed : (number : ℕ) (group : KeyedRows) (rows : List GroupRow) (old new : Lists) → AreNumbered old → get old.groups number ≡ Some group → new.numbers ≡ old.numbers → new.groups ≡ with_value old.groups number (record group { rows = rows }) → Changes number group rows old new
 changed number group rows old new sound was numbers groups =
     let updates = Updates-with_value old.groups number (record group { rows = rows }) (subst (λ (g : Option KeyedRows). IsSome g) (sym was) refl) in
     record {
@@ -226,10 +226,10 @@ with_same_cells cells number group lists numbered under is = same_Some group.cel
 -- the list of a group before a row came to one that was there, also without a row
 pub own_short : (number : ℕ) (group : KeyedRows) (lists : Lists) → AreNumbered lists → get lists.groups number ≡ Some group → lists.crowded ≡ false → length group.rows ≤ 1
 own_short number group lists sound was calm =
-    subst (λ (rows : List Slot). length rows ≤ 1) (under_number group.cells.items number lists (sound.cells group.cells.items number (with_group number lists.groups group was)) ∙ with_rows number lists.groups group was)
+    subst (λ (rows : List GroupRow). length rows ≤ 1) (under_number group.cells.items number lists (sound.cells group.cells.items number (with_group number lists.groups group was)) ∙ with_rows number lists.groups group was)
     (sound.alone calm group.cells.items)
 
-pub shorter : (entries : List Entry) (at : ℤ) (key : ℕ) (slots : List Slot) → length (slots_without entries at key slots) ≤ length slots
+pub shorter : (entries : List Entry) (at : ℤ) (key : ℕ) (slots : List GroupRow) → length (slots_without entries at key slots) ≤ length slots
 shorter entries at key [] = omega arith
 shorter entries at key (slot ∷ slots) = by_test (is_before entries at key slot) (shorter entries at key slots)
   where
@@ -245,7 +245,7 @@ unbegun cells old new absent same other = by_test (same_cells cells other) refl
     by_test true e = same other ∙ ap (λ cs. slots_under cs old) (sym ((signed_items cells other).0 e)) ∙ under_none cells old absent
     by_test false e = same other
 
-pub becomes_after : (cells : List ℤ) (slots others : List Slot) (old mid new : Lists) → Becomes cells others old mid → Becomes cells slots mid new → Becomes cells slots old new
+pub becomes_after : (cells : List ℤ) (slots others : List GroupRow) (old mid new : Lists) → Becomes cells others old mid → Becomes cells slots mid new → Becomes cells slots old new
 becomes_after cells slots others old mid new first second other = by_test (same_cells cells other) (first other) (second other)
   where
     by_test : (b : Bool) → slots_under other mid ≡ (if b then others else slots_under other old) → slots_under other new ≡ (if b then slots else slots_under other mid) → slots_under other new ≡ (if b then slots else slots_under other old)
@@ -256,7 +256,7 @@ pub same_items : (cells : List ℤ) (number : ℕ) (group : KeyedRows) (groups :
 same_items cells number group groups was own = same_Some group.cells.items cells (sym (with_group number groups group was) ∙ own)
 
 -- a place in a list
-pub placed_with : (entries : List Entry) (at : ℤ) (key : ℕ) (slot : Slot) (slots : List Slot) (n : ℕ) → n ≤ length slots → AllByRecursion (λ s. is_before entries at key s ≡ true) (take n slots) → AllByRecursion (λ s. is_before entries at key s ≡ false) (drop n slots) → take n slots ++ slot ∷ drop n slots ≡ slots_with entries at key slot slots
+pub placed_with : (entries : List Entry) (at : ℤ) (key : ℕ) (slot : GroupRow) (slots : List GroupRow) (n : ℕ) → n ≤ length slots → AllByRecursion (λ s. is_before entries at key s ≡ true) (take n slots) → AllByRecursion (λ s. is_before entries at key s ≡ false) (drop n slots) → take n slots ++ slot ∷ drop n slots ≡ slots_with entries at key slot slots
 placed_with entries at key slot [] zero le h k = refl
 placed_with entries at key slot [] (suc n) le h k = absurd (omega arith)
 placed_with entries at key slot (s ∷ slots) zero le h k = sym (ap (λ b. if b then s ∷ slots_with entries at key slot slots else slot ∷ s ∷ slots) k.0)
@@ -264,7 +264,7 @@ placed_with entries at key slot (s ∷ slots) (suc n) le h k =
     ap (λ ss. s ∷ ss) (placed_with entries at key slot slots n (omega arith) h.1 k)
     ∙ sym (ap (λ b. if b then s ∷ slots_with entries at key slot slots else slot ∷ s ∷ slots) h.0)
 
-pub placed_without : (entries : List Entry) (at : ℤ) (key : ℕ) (slots : List Slot) (n : ℕ) → n < length slots → AllByRecursion (λ s. is_before entries at key s ≡ true) (take n slots) → AllByRecursion (λ s. is_before entries at key s ≡ false) (drop n slots) → take n slots ++ drop (suc n) slots ≡ slots_without entries at key slots
+pub placed_without : (entries : List Entry) (at : ℤ) (key : ℕ) (slots : List GroupRow) (n : ℕ) → n < length slots → AllByRecursion (λ s. is_before entries at key s ≡ true) (take n slots) → AllByRecursion (λ s. is_before entries at key s ≡ false) (drop n slots) → take n slots ++ drop (suc n) slots ≡ slots_without entries at key slots
 placed_without entries at key [] n lt h k = absurd (omega arith)
 placed_without entries at key (s ∷ slots) zero lt h k = sym (ap (λ b. if b then s ∷ slots_without entries at key slots else slots) k.0)
 placed_without entries at key (s ∷ slots) (suc n) lt h k =
@@ -272,18 +272,18 @@ placed_without entries at key (s ∷ slots) (suc n) lt h k =
     ∙ sym (ap (λ b. if b then s ∷ slots_without entries at key slots else slots) h.0)
 
 -- a row behind all others
-pub placed_alone : (entries : List Entry) (at : ℤ) (key : ℕ) (slot : Slot) (slots : List Slot) → length slots ≡ 0 → slots ++ slot ∷ [] ≡ slots_with entries at key slot slots
+pub placed_alone : (entries : List Entry) (at : ℤ) (key : ℕ) (slot : GroupRow) (slots : List GroupRow) → length slots ≡ 0 → slots ++ slot ∷ [] ≡ slots_with entries at key slot slots
 placed_alone entries at key slot [] none = refl
 placed_alone entries at key slot (s ∷ slots) none = absurd (omega arith)
 
-pub placed_last : (entries : List Entry) (at : ℤ) (key : ℕ) (slot last : Slot) (slots : List Slot) → slice_get slots (length slots - 1) ≡ Some last → IsParted (is_before entries at key) slots → is_before entries at key last ≡ true → slots ++ slot ∷ [] ≡ slots_with entries at key slot slots
+pub placed_last : (entries : List Entry) (at : ℤ) (key : ℕ) (slot last : GroupRow) (slots : List GroupRow) → slice_get slots (length slots - 1) ≡ Some last → IsParted (is_before entries at key) slots → is_before entries at key last ≡ true → slots ++ slot ∷ [] ≡ slots_with entries at key slot slots
 placed_last entries at key slot last slots is parted own =
     put_last slots (length slots) slot refl
     ∙ placed_with entries at key slot slots (length slots) (omega arith) (passed_all (is_before entries at key) slots (length slots) last refl is parted own)
     (subst (AllByRecursion (λ s. is_before entries at key s ≡ false)) (sym (drop_all (length slots) slots (omega arith))) tt)
 
 -- where all rows stand before the place, none is there
-pub none_there : (entries : List Entry) (at : ℤ) (key : ℕ) (slots : List Slot) (n : ℕ) → length slots ≤ n → AllByRecursion (λ s. is_before entries at key s ≡ true) (take n slots) → slots ≡ slots_without entries at key slots
+pub none_there : (entries : List Entry) (at : ℤ) (key : ℕ) (slots : List GroupRow) (n : ℕ) → length slots ≤ n → AllByRecursion (λ s. is_before entries at key s ≡ true) (take n slots) → slots ≡ slots_without entries at key slots
 none_there entries at key [] n le h = refl
 none_there entries at key (s ∷ slots) zero le h = absurd (omega arith)
 none_there entries at key (s ∷ slots) (suc n) le h =

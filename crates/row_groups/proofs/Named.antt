@@ -2,7 +2,7 @@
 use Rattle.std.proofs.Common.{◌≡◌, ◌≢◌, refl, ap, sym, ◌∙◌, subst, ℕ, zero, suc, ◌+◌, List, [], ◌∷◌, length, map, get_or, Option, Some, None, IfSome, IsSome, option_map, arith, ℤ}
 use Rattle.std.proofs.lemmas.Option.{none-some, same_Some}
 use Rattle.slab.{specs.Slab.{entries_from, get, slab_len}, proofs.SlabLemmas.length-entries}
-use Rattle.row_groups.{specs.declared.index.Index.Index, specs.declared.lists.KeyedRows.KeyedRows, specs.Members.{IsNumberOf, IsPart, group_of, name_at}, specs.Rows.{ByNumber, cells_with, group_rows, members_of, number_under, rows_of, slots_under}, specs.Slots.{IsGroup, member_at}, specs.Indexes.{IsIndex, names_of, numbered_of}, proofs.Keys.{ascending, known_all}, proofs.Listed.{numbered_under, under_none, with_group, with_rows}, proofs.Groupings.{group_members, listed_group, listed_members}, proofs.Indexed.no_slots}
+use Rattle.row_groups.{specs.declared.index.GroupIndex.GroupIndex, specs.declared.lists.KeyedRows.KeyedRows, specs.Members.{IsNumberOf, IsPart, group_of, name_at}, specs.Rows.{ByNumber, cells_with, group_rows, members_of, number_under, rows_of, slots_under}, specs.Slots.{IsGroup, member_at}, specs.Indexes.{IsIndex, names_of, numbered_of}, proofs.Keys.{ascending, known_all}, proofs.Listed.{numbered_under, under_none, with_group, with_rows}, proofs.Groupings.{group_members, listed_group, listed_members}, proofs.Indexed.no_slots}
 
 names_at : (slots : List (Option KeyedRows)) (n : ℕ) → get_or (map (option_map (λ (group : KeyedRows). group.cells.items)) slots) n None ≡ option_map (λ (group : KeyedRows). group.cells.items) (get_or slots n None)
 names_at [] n = refl
@@ -34,7 +34,7 @@ all_listed groups none = sym (length-entries groups) ∙ none_counted 0 groups.s
     by_slot None e = refl
     by_slot (Some group) e = absurd (none-some group.cells.items (sym e))
 
-module _ (index : Index) (is : IsIndex index) where
+module _ (index : GroupIndex) (is : IsIndex index) where
   -- cells without a number are those of no member
   none_named : (cells : List ℤ) → ((n : ℕ) → name_at n (names_of index.lists.groups) ≢ Some cells) → group_of cells (numbered_of index).members ≡ []
   none_named cells unnamed = by_number (number_under cells index.lists.numbers) refl
@@ -85,7 +85,7 @@ module _ (index : Index) (is : IsIndex index) where
     members_with = ap (map (member_at index.handles group.cells.items)) own_slots ∙ listed_members index.table index.lists.groups index.handles index.lists group.cells.items is.listed is.handled
 
 -- an index whose groups keep their numbers in another
-pub part_of : (part whole : Index) → IsIndex part → IsIndex whole → ((n : ℕ) (cells : List ℤ) → cells_with n part.lists.groups ≡ Some cells → cells_with n whole.lists.groups ≡ Some cells) → IsPart (numbered_of part) (numbered_of whole)
+pub part_of : (part whole : GroupIndex) → IsIndex part → IsIndex whole → ((n : ℕ) (cells : List ℤ) → cells_with n part.lists.groups ≡ Some cells → cells_with n whole.lists.groups ≡ Some cells) → IsPart (numbered_of part) (numbered_of whole)
 part_of part whole is other keeps = record {
   kept = λ n cells e. name_is n whole.lists.groups ∙ keeps n cells (sym (name_is n part.lists.groups) ∙ e);
   named = none_named part is;

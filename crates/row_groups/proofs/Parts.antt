@@ -1,10 +1,10 @@
 -- Lists of which a first part passes a test, and such lists in chunks.
 use Rattle.std.proofs.Common.{◌≡◌, refl, ap, sym, ◌∙◌, subst, Bool, true, false, ℕ, zero, suc, ◌+◌, ◌<◌, ◌≤◌, arith, List, [], ◌∷◌, ◌++◌, length, take, drop, get_or, IsSome}
 use Rattle.std.{specs.List.AllByRecursion, proofs.Math.Seq.drop-cons, proofs.lemmas.Bool.true_from_ne_false}
-use Rattle.chunk_list.{specs.declared.counts.Place.Place, specs.Chunked.{joined, list_at, position_in}, proofs.Changing.every_chunk, proofs.Joined.joined_around}
+use Rattle.chunk_list.{specs.declared.counts.ChunkPosition.ChunkPosition, specs.Chunked.{joined, list_at, position_in}, proofs.Changing.every_chunk, proofs.Joined.joined_around}
 use Rattle.row_handles.specs.Entries.{Entry, key_with}
 use Rattle.key_lists.{proofs.Every.every-append, proofs.Parts.{every_front, every_back, every_at, drop_among}}
-use Rattle.row_groups.{specs.declared.place.Slot.Slot, specs.Slots.{AreKnown, IsParted}}
+use Rattle.row_groups.{specs.declared.place.GroupRow.GroupRow, specs.Slots.{AreKnown, IsParted}}
 
 pub unlike : (b : Bool) → b ≡ true → b ≡ false → ⊥
 unlike b e f = cc
@@ -57,9 +57,9 @@ parted_in p ls i lt h =
     parted_front p (list_at i ls) (joined (drop (suc i) ls)) (parted_back p (joined (take i ls)) (list_at i ls ++ joined (drop (suc i) ls)) (subst (IsParted p) (joined_around ls i lt) h))
 
 -- the rows of each chunk are known
-pub known_at : (entries : List Entry) (chunks : List (List Slot)) (i : ℕ) (rows : List Slot) → i < length chunks → AreKnown entries (joined chunks) → rows ≡ list_at i chunks → AreKnown entries rows
+pub known_at : (entries : List Entry) (chunks : List (List GroupRow)) (i : ℕ) (rows : List GroupRow) → i < length chunks → AreKnown entries (joined chunks) → rows ≡ list_at i chunks → AreKnown entries rows
 known_at entries chunks i rows lt known e =
-    subst (AreKnown entries) (sym e) (every_at (AreKnown entries) chunks i [] lt (every_chunk (λ (slot : Slot). IsSome (key_with slot.handle entries)) chunks known))
+    subst (AreKnown entries) (sym e) (every_at (AreKnown entries) chunks i [] lt (every_chunk (λ (slot : GroupRow). IsSome (key_with slot.handle entries)) chunks known))
 
 -- the parts of a list up to a place in its midst, and from there
 pub take_among : {X : Type 0} (xs ys zs : List X) (n m : ℕ) → length xs + m ≡ n → m ≤ length ys → take n (xs ++ (ys ++ zs)) ≡ xs ++ take m ys
@@ -71,13 +71,13 @@ take_among (w ∷ xs) ys zs zero m e le = absurd (omega arith)
 take_among (w ∷ xs) ys zs (suc n) m e le = ap (λ rs. w ∷ rs) (take_among xs ys zs n m (omega arith) le)
 
 -- what holds of the items on either side of a place
-pub before_in : {X : Type 0} (P : X → Type 0) (ls : List (List X)) (place : Place) → place.index < length ls → place.offset ≤ length (list_at place.index ls) → AllByRecursion P (joined (take place.index ls)) → AllByRecursion P (take place.offset (list_at place.index ls)) → AllByRecursion P (take (position_in ls place) (joined ls))
+pub before_in : {X : Type 0} (P : X → Type 0) (ls : List (List X)) (place : ChunkPosition) → place.index < length ls → place.offset ≤ length (list_at place.index ls) → AllByRecursion P (joined (take place.index ls)) → AllByRecursion P (take place.offset (list_at place.index ls)) → AllByRecursion P (take (position_in ls place) (joined ls))
 before_in P ls place lt le h k =
     let i = place.index in
     subst (AllByRecursion P) (sym (ap (take (position_in ls place)) (joined_around ls i lt) ∙ take_among (joined (take i ls)) (list_at i ls) (joined (drop (suc i) ls)) (position_in ls place) place.offset refl le))
     (every-append P (joined (take i ls)) (take place.offset (list_at i ls)) h k)
 
-pub others_in : {X : Type 0} (P : X → Type 0) (ls : List (List X)) (place : Place) → place.index < length ls → place.offset ≤ length (list_at place.index ls) → AllByRecursion P (drop place.offset (list_at place.index ls)) → AllByRecursion P (joined (drop (suc place.index) ls)) → AllByRecursion P (drop (position_in ls place) (joined ls))
+pub others_in : {X : Type 0} (P : X → Type 0) (ls : List (List X)) (place : ChunkPosition) → place.index < length ls → place.offset ≤ length (list_at place.index ls) → AllByRecursion P (drop place.offset (list_at place.index ls)) → AllByRecursion P (joined (drop (suc place.index) ls)) → AllByRecursion P (drop (position_in ls place) (joined ls))
 others_in P ls place lt le h k =
     let i = place.index in
     subst (AllByRecursion P) (sym (ap (drop (position_in ls place)) (joined_around ls i lt) ∙ drop_among (joined (take i ls)) (list_at i ls) (joined (drop (suc i) ls)) (position_in ls place) place.offset refl le))

@@ -10,12 +10,12 @@ use Rattle.std.{specs.Prelude.{ℕ, ◌-◌, ◌<◌, ◌≤◌, ◌≡◌, ◌=
 use Rattle.slab.specs.Slab.{Slab, get}
 use Rattle.tick_model.specs.Tables.{same_cells}
 use Rattle.row_handles.specs.Entries.{Entry}
-use Rattle.row_groups.{specs.declared.lists.KeyedRows.KeyedRows, specs.declared.lists.Lists.Lists, specs.declared.numbers.Numbers.Numbers, specs.declared.place.Slot.Slot, specs.declared.table.Kept.Kept, specs.declared.table.Table.Table, specs.Members.{Member, member_of}}
+use Rattle.row_groups.{specs.declared.lists.KeyedRows.KeyedRows, specs.declared.lists.Lists.Lists, specs.declared.numbers.GroupNumbers.GroupNumbers, specs.declared.place.GroupRow.GroupRow, specs.declared.table.GroupMember.GroupMember, specs.declared.table.Table.Table, specs.Members.{Member, member_of}}
 
 abbrev pub ByNumber : Type 0
 ByNumber = Slab KeyedRows
 
-abbrev pub kept_in : Table → ℕ → Kept
+abbrev pub kept_in : Table → ℕ → GroupMember
 kept_in table handle = slice_index_or table.rows.items handle (record { number = 0; at = pos 0 })
 
 abbrev pub at_in : Table → ℕ → ℤ
@@ -24,7 +24,7 @@ at_in table handle = (kept_in table handle).at
 abbrev pub cells_with : ℕ → ByNumber → Option (List ℤ)
 cells_with number groups = option_map (λ group. group.cells.items) (get groups number)
 
-abbrev pub slots_numbered : ℕ → ByNumber → List Slot
+abbrev pub slots_numbered : ℕ → ByNumber → List GroupRow
 slots_numbered number groups = option_map_or (λ group. group.rows) (get groups number) []
 
 abbrev pub single_cell : List ℤ → Option ℕ
@@ -38,11 +38,11 @@ place_in cells by_cell = option_map_or (λ n. if nat_lt n (length by_cell) then 
 abbrev pub number_below : ℕ → Option ℕ
 number_below above = if above == 0 then None else Some (above - 1)
 
-abbrev pub number_under : List ℤ → Numbers → Option ℕ
+abbrev pub number_under : List ℤ → GroupNumbers → Option ℕ
 number_under cells numbers = option_map_or (λ place. number_below (slice_index_or numbers.by_cell.items place 0)) (place_in cells numbers.by_cell.items) (get_by (λ key. same_cells cells key.items) numbers.by_cells)
 
 -- only these cells lead to another number, or to none
-abbrev pub Leads : List ℤ → Option ℕ → Numbers → Numbers → Type 0
+abbrev pub Leads : List ℤ → Option ℕ → GroupNumbers → GroupNumbers → Type 0
 Leads cells number old new = (other : List ℤ) → number_under other new ≡ (if same_cells cells other then number else number_under other old)
 
 -- the key cells of the group of a row
@@ -86,10 +86,10 @@ rows_by_at (row ∷ rows) = row_placed row (rows_by_at rows)
 abbrev pub group_rows : List ℤ → List Row → List Row
 group_rows cells rows = rows_by_at (filter (λ row. same_cells cells row.member.cells) rows)
 
-abbrev pub slot_of : Row → Slot
+abbrev pub slot_of : Row → GroupRow
 slot_of row = record { at = row.member.at; handle = row.handle }
 
-abbrev pub slots_under : List ℤ → Lists → List Slot
+abbrev pub slots_under : List ℤ → Lists → List GroupRow
 slots_under cells lists = option_map_or (λ number. slots_numbered number lists.groups) (number_under cells lists.numbers) []
 
 -- the cells lead to the numbers of the groups that have them, and no list has two rows before a row came to one that was there
@@ -99,7 +99,7 @@ pub record AreNumbered (lists : Lists) : Type 0 where
   pub alone : lists.crowded ≡ false → (cells : List ℤ) → length (slots_under cells lists) ≤ 1
 
 -- only the list under these cells is another
-abbrev pub Becomes : List ℤ → List Slot → Lists → Lists → Type 0
+abbrev pub Becomes : List ℤ → List GroupRow → Lists → Lists → Type 0
 Becomes cells slots old new = (other : List ℤ) → slots_under other new ≡ (if same_cells cells other then slots else slots_under other old)
 
 -- the lists are those of the groups

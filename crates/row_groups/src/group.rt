@@ -5,7 +5,7 @@ ghost use Rattle.row_handles.specs.Entries.{AreHandled};
 ghost use Rattle.row_groups.specs.Members.{keys_of};
 ghost use Rattle.row_groups.specs.Slots.{AreKnown, AreRanked};
 
-use crate::place::Place;
+use crate::place::SearchKey;
 use crate::sequence::Sequence;
 use row_handles::Handles;
 use std::marker::Model;
@@ -111,7 +111,7 @@ impl<'a> Group<'a> {
                 return self.rows.len();
             }
         }
-        self.rows.count_before(&Place {
+        self.rows.count_before(&SearchKey {
             handles: self.handles,
             at,
             key: KEY_SPACE,
@@ -127,7 +127,7 @@ impl<'a> Group<'a> {
                 return 0;
             }
         }
-        self.rows.count_before(&Place {
+        self.rows.count_before(&SearchKey {
             handles: self.handles,
             at,
             key: 0,

@@ -6,8 +6,8 @@ ghost use Rattle.row_groups.specs.Members.{left_members, member_of, moved_member
 ghost use Rattle.row_groups.specs.Rows.{cells_with, members_of, rows_of};
 
 use crate::lists::Lists;
-use crate::place::{Place, Slot};
-use crate::table::{Kept, Table};
+use crate::place::{GroupRow, SearchKey};
+use crate::table::{GroupMember, Table};
 use row_handles::{Handle, Handles};
 use row_set::RowSet;
 use shift_data::ShiftData;
@@ -15,7 +15,7 @@ use std::alloc::{AllocError, Global};
 
 /// The rows of a table in groups.
 #[derive(Drop)]
-pub(crate) struct Index {
+pub(crate) struct GroupIndex {
     /// How many key cells each row has.
     pub(crate) width: usize,
     pub(crate) handles: Handles,
@@ -23,16 +23,16 @@ pub(crate) struct Index {
     pub(crate) lists: Lists,
 }
 
-impl Index {
+impl GroupIndex {
     ghost use Rattle.row_groups.specs.Indexes.{grouped_of, Holds, IsIndex, names_of};
 
     /// No rows, which are to have so many key cells each.
-    pub(crate) fn new(alloc: Global, width: usize) -> Index
+    pub(crate) fn new(alloc: Global, width: usize) -> GroupIndex
         ensures sound { IsIndex result }
         ensures members { grouped_of result ≡ record { width = width; members = [] } }
         ensures names { names_of result.lists.groups ≡ [] }
     {
-        Index {
+        GroupIndex {
             width,
             handles: Handles::new(alloc),
             table: Table::new(alloc),
@@ -62,13 +62,15 @@ impl Index {
         ensures width { self.new.width ≡ self.old.width }
     {
         self.table.make_room(handle)?;
-        let place = Place {
+        let place = SearchKey {
             handles: &self.handles,
             at,
             key,
         };
-        let number = self.lists.put(cells, &place, Slot { at, handle }, near)?;
-        self.table.keep(handle, Kept { number, at });
+        let number = self
+            .lists
+            .put(cells, &place, GroupRow { at, handle }, near)?;
+        self.table.keep(handle, GroupMember { number, at });
         Ok(number)
     }
 
@@ -112,7 +114,7 @@ impl Index {
                 continue;
             };
             let kept = self.table.get(handle);
-            let place = Place {
+            let place = SearchKey {
                 handles: &self.handles,
                 at: kept.at,
                 key,

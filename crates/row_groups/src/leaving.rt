@@ -5,11 +5,11 @@ ghost use Rattle.row_groups.specs.Indexes.{IsIndex, grouped_of, numbered_of};
 ghost use Rattle.row_groups.specs.Members.{IsNumberUnder, left_members, member_under};
 ghost use Rattle.row_groups.specs.Rows.{cells_with};
 
-use crate::index::Index;
-use crate::place::Place;
+use crate::index::GroupIndex;
+use crate::place::SearchKey;
 use row_set::RowSet;
 
-impl Index {
+impl GroupIndex {
     /// Takes out the rows under these keys, whose groups have these numbers and whose `at` is this.
     pub(crate) fn remove_numbered(&mut self, keys: &RowSet, numbers: &[usize], at: i64)
         requires sound { IsIndex self.old }
@@ -21,7 +21,7 @@ impl Index {
     {
         let mut position = 0;
         for key in keys {
-            let place = Place {
+            let place = SearchKey {
                 handles: &self.handles,
                 at,
                 key,

@@ -2,8 +2,8 @@
 ghost use Rattle.std.specs.Prelude.{◌≡◌, ◌≢◌, ◌∷◌, ℕ, List, ℤ, [], None, Some, IfOk, IsSome, OnErr};
 ghost use Rattle.row_groups.specs.Slots.{AreKnown, is_before, IsParted, slots_with, slots_without};
 
-use crate::numbers::Numbers;
-use crate::place::{Place, Slot};
+use crate::numbers::GroupNumbers;
+use crate::place::{GroupRow, SearchKey};
 use crate::sequence::Sequence;
 use slab::Slab;
 use std::alloc::{AllocError, Global};
@@ -19,7 +19,7 @@ pub(crate) struct KeyedRows {
 #[derive(Drop)]
 pub(crate) struct Lists {
     alloc: Global,
-    pub(crate) numbers: Numbers,
+    pub(crate) numbers: GroupNumbers,
     pub(crate) groups: Slab<KeyedRows>,
     /// Whether a row has come to a group that was there.
     pub(crate) crowded: bool,
@@ -39,7 +39,7 @@ impl Lists {
     {
         Lists {
             alloc,
-            numbers: Numbers::new(alloc),
+            numbers: GroupNumbers::new(alloc),
             groups: Slab::new(alloc),
             crowded: false,
             none: Sequence::new(alloc),
@@ -66,7 +66,7 @@ impl Lists {
     }
 
     /// Begins the group of these cells with its first row, and gives it a number.
-    fn begin(&mut self, cells: &[i64], slot: Slot) -> Result<usize, AllocError>
+    fn begin(&mut self, cells: &[i64], slot: GroupRow) -> Result<usize, AllocError>
         requires sound { AreNumbered self.old }
         requires absent { number_under cells.now self.old.numbers ≡ None }
         ensures ok { IfOk result (λ number. Becomes cells.now (slot ∷ []) self.old self.new) }
@@ -99,8 +99,8 @@ impl Lists {
     pub(crate) fn put(
         &mut self,
         cells: &[i64],
-        place: &Place<'_>,
-        slot: Slot,
+        place: &SearchKey<'_>,
+        slot: GroupRow,
         near: usize,
     ) -> Result<usize, AllocError>
         requires sound { AreNumbered self.old }
@@ -134,7 +134,7 @@ impl Lists {
     }
 
     /// Takes out the row at a place of a group, and gives up the group if it has no other.
-    pub(crate) fn take(&mut self, number: usize, place: &Place<'_>)
+    pub(crate) fn take(&mut self, number: usize, place: &SearchKey<'_>)
         requires sound { AreNumbered self.old }
         requires there { IsSome (cells_with number self.old.groups) }
         requires known { AreKnown place.now.handles.now (slots_numbered number self.old.groups) }

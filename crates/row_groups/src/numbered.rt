@@ -5,7 +5,7 @@ ghost use Rattle.tick_model.specs.Rules.{shift_fault};
 ghost use Rattle.row_groups.specs.Members.{AreGrouped, IsNumberOf, IsNumberUnder, IsPart, group_of, groups_of, keys_of, left_members, member_of, member_under, moved_members, name_at, with_member};
 
 use crate::group::Group;
-use crate::index::Index;
+use crate::index::GroupIndex;
 use row_set::RowSet;
 use shift_data::ShiftData;
 use std::alloc::{AllocError, Global};
@@ -16,7 +16,7 @@ use std::marker::Model;
 /// can stand beside it in a vector. It keeps its number while it has rows; then the number is free for another group.
 #[derive(Drop)]
 pub struct NumberedGroups {
-    index: Index,
+    index: GroupIndex,
 }
 
 impl Model for NumberedGroups {
@@ -36,7 +36,7 @@ impl NumberedGroups {
         ensures { result ≡ record { width = width; members = []; names = [] } }
     {
         NumberedGroups {
-            index: Index::new(alloc, width),
+            index: GroupIndex::new(alloc, width),
         }
     }
 

@@ -13,7 +13,7 @@ const FEW: usize = 256;
 
 /// The number of each group, by its key cells. Where a group has one small cell, no hash is taken.
 #[derive(Drop)]
-pub(crate) struct Numbers {
+pub(crate) struct GroupNumbers {
     alloc: Global,
     /// By a cell that is alone and small the number of its group and one, and 0 where there is no group. Beside `FEW` it has at
     /// most twice as many places as there were groups at once.
@@ -54,14 +54,14 @@ fn cell_alone(cells: &[i64]) -> Option<usize>
     }
 }
 
-impl Numbers {
+impl GroupNumbers {
     ghost use Rattle.row_groups.specs.Rows.{Leads, number_under, place_in};
 
     /// No numbers. It takes no memory.
-    pub(crate) fn new(alloc: Global) -> Numbers
+    pub(crate) fn new(alloc: Global) -> GroupNumbers
         ensures { (cells : List ℤ) → number_under cells result ≡ None }
     {
-        Numbers {
+        GroupNumbers {
             alloc,
             by_cell: Vec::new(alloc),
             by_cells: HashMap::new(alloc),

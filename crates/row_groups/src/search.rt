@@ -4,8 +4,8 @@ ghost use Rattle.std.specs.List.{AllByRecursion};
 ghost use Rattle.chunk_list.specs.Chunked.{joined, list_at, position_in};
 ghost use Rattle.row_groups.specs.Slots.{AreKnown, is_before, IsParted};
 
-use crate::place::{Place, Slot};
-use chunk_list::{Chunks, Place as Spot};
+use crate::place::{GroupRow, SearchKey};
+use chunk_list::{ChunkPosition as Spot, Chunks};
 
 /// Among fewer rows or chunks a place is looked for from the middle on.
 const FEW: usize = 16;
@@ -23,7 +23,12 @@ fn rank(at: i64) -> u64 {
 
 /// Where a place is likely to be among so many rows or chunks, the first and the last of which are at hand: where it would be if
 /// rows stood evenly between the first row and the last by `at`, or by key where these have one `at`. Among few it is the middle.
-fn likely_place(lower: &[Slot], upper: &[Slot], count: usize, place: &Place<'_>) -> usize
+fn likely_place(
+    lower: &[GroupRow],
+    upper: &[GroupRow],
+    count: usize,
+    place: &SearchKey<'_>,
+) -> usize
     requires lower { AreKnown place.now.handles.now lower.now }
     requires upper { AreKnown place.now.handles.now upper.now }
 {
@@ -63,7 +68,7 @@ fn inside(guess: usize, low: usize, high: usize) -> usize
 }
 
 /// How many rows of a chunk stand before a place. It is looked for near the likely place, and farther from it by growing steps.
-fn rows_before(rows: &[Slot], place: &Place<'_>) -> usize
+fn rows_before(rows: &[GroupRow], place: &SearchKey<'_>) -> usize
     requires known { AreKnown place.now.handles.now rows.now }
     requires parted { IsParted (is_before place.now.handles.now place.now.at place.now.key) rows.now }
     ensures within { result ≤ length rows.now }
@@ -90,7 +95,7 @@ fn rows_before(rows: &[Slot], place: &Place<'_>) -> usize
 }
 
 /// The chunk in which the rows before a place end: the first, or the last that begins before the place. It is looked for as a row is.
-fn chunk_before(chunks: &Chunks<Slot>, place: &Place<'_>) -> usize
+fn chunk_before(chunks: &Chunks<GroupRow>, place: &SearchKey<'_>) -> usize
     requires some { 0 < length chunks.now }
     requires known { AreKnown place.now.handles.now (joined chunks.now) }
     requires parted { IsParted (is_before place.now.handles.now place.now.at place.now.key) (joined chunks.now) }
@@ -118,7 +123,7 @@ fn chunk_before(chunks: &Chunks<Slot>, place: &Place<'_>) -> usize
 }
 
 /// Where the rows before a place end.
-pub(crate) fn spot_before(chunks: &Chunks<Slot>, place: &Place<'_>) -> Spot
+pub(crate) fn spot_before(chunks: &Chunks<GroupRow>, place: &SearchKey<'_>) -> Spot
     requires known { AreKnown place.now.handles.now (joined chunks.now) }
     requires parted { IsParted (is_before place.now.handles.now place.now.at place.now.key) (joined chunks.now) }
     ensures within { result.index ≤ length chunks.now }

@@ -3,7 +3,7 @@ ghost use Rattle.std.specs.Prelude.{◌≡◌, ◌+◌, ◌-◌, ◌<◌, ◌≤
 ghost use Rattle.std.specs.List.{AllByRecursion};
 ghost use Rattle.row_groups.specs.Slots.{AreKnown, is_before, IsParted, slots_with, slots_without};
 
-use crate::place::{Place, Slot};
+use crate::place::{GroupRow, SearchKey};
 use crate::search::spot_before;
 use chunk_list::Chunks;
 use std::alloc::{AllocError, Global};
@@ -15,17 +15,17 @@ const CHUNK_LEN: usize = 128;
 /// Rows in order. A row comes or leaves in their midst at the cost of one chunk and of the list of chunks.
 #[derive(Drop)]
 pub(crate) struct Sequence {
-    chunks: Chunks<Slot>,
+    chunks: Chunks<GroupRow>,
     len: usize,
 }
 
 impl Model for Sequence {
     ghost use Rattle.std.specs.Prelude.{List};
-    ghost use Rattle.row_groups.specs.declared.place.Slot.{Slot};
+    ghost use Rattle.row_groups.specs.declared.place.GroupRow.{GroupRow};
     ghost use Rattle.chunk_list.specs.Chunked.{joined};
     ghost use Rattle.row_groups.specs.Slots.{IsCounted};
 
-    ghost Value = { List Slot };
+    ghost Value = { List GroupRow };
 
     ghost view = { λ sequence. joined sequence.chunks };
 
@@ -56,7 +56,7 @@ impl Sequence {
     }
 
     /// The row at a position.
-    pub(crate) fn get(&self, position: usize) -> Slot
+    pub(crate) fn get(&self, position: usize) -> GroupRow
         requires { position < length self.now }
         ensures { slice_get self.now position ≡ Some result }
     {
@@ -65,21 +65,21 @@ impl Sequence {
     }
 
     /// The first row, whose chunk is at hand.
-    pub(crate) fn first(&self) -> Option<Slot>
+    pub(crate) fn first(&self) -> Option<GroupRow>
         ensures { result ≡ slice_get self.now 0 }
     {
         self.chunks.first().copied()
     }
 
     /// The last row, whose chunk is at hand.
-    pub(crate) fn last(&self) -> Option<Slot>
+    pub(crate) fn last(&self) -> Option<GroupRow>
         ensures { result ≡ slice_get self.now (length self.now - 1) }
     {
         self.chunks.last().copied()
     }
 
     /// How many rows stand before a place: two binary searches, and the rows of the chunks before it are counted.
-    fn search(&self, place: &Place<'_>) -> usize
+    fn search(&self, place: &SearchKey<'_>) -> usize
         requires known { AreKnown place.now.handles.now self.now }
         requires parted { IsParted (is_before place.now.handles.now place.now.at place.now.key) self.now }
         ensures within { result ≤ length self.now }
@@ -91,7 +91,7 @@ impl Sequence {
     }
 
     /// How many rows stand before a place. Where that is all of them or none, a look at the last row or the first shows it.
-    pub(crate) fn count_before(&self, place: &Place<'_>) -> usize
+    pub(crate) fn count_before(&self, place: &SearchKey<'_>) -> usize
         requires known { AreKnown place.now.handles.now self.now }
         requires parted { IsParted (is_before place.now.handles.now place.now.at place.now.key) self.now }
         ensures within { result ≤ length self.now }
@@ -112,7 +112,7 @@ impl Sequence {
     }
 
     /// Puts a row in behind all others, at a cost that does not grow with them. After a refusal all is as it was.
-    pub(crate) fn push(&mut self, slot: Slot) -> Result<(), AllocError>
+    pub(crate) fn push(&mut self, slot: GroupRow) -> Result<(), AllocError>
         ensures ok { OnOk result (self.new ≡ self.old ++ slot ∷ []) }
         ensures err { OnErr result (self.new ≡ self.old) }
     {
@@ -124,7 +124,7 @@ impl Sequence {
 
     /// Puts a row in at a place: behind all others at once where a look at the last one shows that it belongs there. After a
     /// refusal all is as it was.
-    pub(crate) fn put(&mut self, place: &Place<'_>, slot: Slot) -> Result<(), AllocError>
+    pub(crate) fn put(&mut self, place: &SearchKey<'_>, slot: GroupRow) -> Result<(), AllocError>
         requires known { AreKnown place.now.handles.now self.old }
         requires parted { IsParted (is_before place.now.handles.now place.now.at place.now.key) self.old }
         ensures ok { OnOk result (self.new ≡ slots_with place.now.handles.now place.now.at place.now.key slot self.old) }
@@ -146,7 +146,7 @@ impl Sequence {
     }
 
     /// Takes out the first row that does not stand before a place, if there is one.
-    pub(crate) fn take(&mut self, place: &Place<'_>)
+    pub(crate) fn take(&mut self, place: &SearchKey<'_>)
         requires known { AreKnown place.now.handles.now self.old }
         requires parted { IsParted (is_before place.now.handles.now place.now.at place.now.key) self.old }
         ensures { self.new ≡ slots_without place.now.handles.now place.now.at place.now.key self.old }

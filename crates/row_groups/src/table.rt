@@ -6,7 +6,7 @@ use std::alloc::{AllocError, Global};
 
 /// What is kept of a row: the number of its group, and its `at`.
 #[derive(Clone, Copy)]
-pub(crate) struct Kept {
+pub(crate) struct GroupMember {
     pub(crate) number: usize,
     pub(crate) at: i64,
 }
@@ -14,7 +14,7 @@ pub(crate) struct Kept {
 /// What is kept of each row, by its handle.
 #[derive(Drop)]
 pub(crate) struct Table {
-    pub(crate) rows: Vec<Kept>,
+    pub(crate) rows: Vec<GroupMember>,
 }
 
 impl Table {
@@ -28,7 +28,7 @@ impl Table {
     }
 
     /// What is kept of a row.
-    pub(crate) fn get(&self, handle: Handle) -> Kept
+    pub(crate) fn get(&self, handle: Handle) -> GroupMember
         requires { handle < length self.now.rows.items }
         ensures { result ≡ kept_in self.now handle }
     {
@@ -43,13 +43,13 @@ impl Table {
     {
         let end = handle.checked_add(1).ok_or(AllocError)?;
         if self.rows.len() < end {
-            self.rows.resize(end, Kept { number: 0, at: 0 })?;
+            self.rows.resize(end, GroupMember { number: 0, at: 0 })?;
         }
         Ok(())
     }
 
     /// Keeps what is to be kept of a row, for which there is room.
-    pub(crate) fn keep(&mut self, handle: Handle, kept: Kept)
+    pub(crate) fn keep(&mut self, handle: Handle, kept: GroupMember)
         requires { handle < length self.old.rows.items }
         ensures { self.new.rows.items ≡ slice_set self.old.rows.items handle kept }
     {

@@ -3,13 +3,13 @@ use Rattle.std.proofs.Common.{◌≡◌, ◌≢◌, refl, ap, sym, ◌∙◌, su
 use Rattle.std.{specs.List.AllByRecursion, proofs.lemmas.Bool.{ne_eqb, eq-eqb, or_right}, proofs.lemmas.List.map-append}
 use Rattle.key_lists.{proofs.Every.{every_weaker, every_both, every_unmapped, turned}, proofs.Parts.{every_front, every_back}}
 use Rattle.slab.specs.Slab.{Slab, get}
-use Rattle.row_handles.{specs.declared.block.Block.Block, specs.declared.block.Row.Row, specs.declared.index.Place.Place, specs.declared.index.Index.Index, specs.Entries.{Entry, Ascend}, specs.Blocks.{IsIndex, IsPlaced, entry_at, place_in, rows_of, rows}, specs.Moves.has_handle, proofs.EntryLists.ascend_back, proofs.Places.{IsAt, located, apart_lists}, proofs.Inserting.rows_around}
+use Rattle.row_handles.{specs.declared.block.RowBlock.RowBlock, specs.declared.block.BlockRow.BlockRow, specs.declared.index.Location.Location, specs.declared.index.HandleIndex.HandleIndex, specs.Entries.{Entry, Ascend}, specs.Blocks.{IsIndex, IsPlaced, entry_at, place_in, rows_of, rows}, specs.Moves.has_handle, proofs.EntryLists.ascend_back, proofs.Places.{IsAt, located, apart_lists}, proofs.Inserting.rows_around}
 
-no_handle : (handle ceiling : ℕ) (xs : List Row) → AllByRecursion (λ x. x.handle ≢ handle) (map (entry_at ceiling) xs) → has_handle handle xs ≡ false
+no_handle : (handle ceiling : ℕ) (xs : List BlockRow) → AllByRecursion (λ x. x.handle ≢ handle) (map (entry_at ceiling) xs) → has_handle handle xs ≡ false
 no_handle handle ceiling [] h = refl
 no_handle handle ceiling (x ∷ xs) h = ap (λ b. b || has_handle handle xs) (ne_eqb x.handle handle h.0) ∙ no_handle handle ceiling xs h.1
 
-pub own_handles : (xs : List Row) → AllByRecursion (λ row. has_handle row.handle xs ≡ true) xs
+pub own_handles : (xs : List BlockRow) → AllByRecursion (λ row. has_handle row.handle xs ≡ true) xs
 own_handles [] = tt
 own_handles (x ∷ xs) =
     (ap (λ b. b || has_handle x.handle xs) (eq-eqb x.handle x.handle refl), every_weaker (λ row. has_handle row.handle xs ≡ true) (λ row. has_handle row.handle (x ∷ xs) ≡ true) xs (λ row e. or_right (x.handle == row.handle) (has_handle row.handle xs) e) (own_handles xs))
@@ -19,7 +19,7 @@ pub five_parts : (front xs ys zs back : List Entry) → front ++ ((xs ++ (ys ++ 
 five_parts front xs ys zs back =
     ap (λ s. front ++ s) (append_assoc xs (ys ++ zs) back ∙ ap (λ s. xs ++ s) (append_assoc ys zs back)) ∙ sym (append_assoc front xs (ys ++ (zs ++ back)))
 
-module _ (index : Index) (sound : IsIndex index) (at : ℕ) (block : Block) (within : at < length index.blocks.items) (is : block ≡ get_or index.blocks.items at block) (xs ys zs : List Row) (whole : block.rows.items ≡ xs ++ (ys ++ zs)) where
+module _ (index : HandleIndex) (sound : IsIndex index) (at : ℕ) (block : RowBlock) (within : at < length index.blocks.items) (is : block ≡ get_or index.blocks.items at block) (xs ys zs : List BlockRow) (whole : block.rows.items ≡ xs ++ (ys ++ zs)) where
   abbrev lower : List Entry
   lower = map (entry_at block.ceiling) xs
 
@@ -75,10 +75,10 @@ module _ (index : Index) (sound : IsIndex index) (at : ℕ) (block : Block) (wit
   apart_back = every_back Apart upper back apart_behind
 
 -- rows that keep their places
-pub rows_stay : (places others : Slab Place) (ys : List Row) (number : ℕ) (xs : List Row) → ((handle : ℕ) → has_handle handle ys ≡ false → get others handle ≡ get places handle) → AllByRecursion (λ row. has_handle row.handle ys ≡ false) xs → AllByRecursion (λ row. get places row.handle ≡ Some (place_in number row.depth)) xs → AllByRecursion (λ row. get others row.handle ≡ Some (place_in number row.depth)) xs
+pub rows_stay : (places others : Slab Location) (ys : List BlockRow) (number : ℕ) (xs : List BlockRow) → ((handle : ℕ) → has_handle handle ys ≡ false → get others handle ≡ get places handle) → AllByRecursion (λ row. has_handle row.handle ys ≡ false) xs → AllByRecursion (λ row. get places row.handle ≡ Some (place_in number row.depth)) xs → AllByRecursion (λ row. get others row.handle ≡ Some (place_in number row.depth)) xs
 rows_stay places others ys number xs stay = every_both (λ row. has_handle row.handle ys ≡ false) (λ row. get places row.handle ≡ Some (place_in number row.depth)) (λ row. get others row.handle ≡ Some (place_in number row.depth)) xs (λ row apart there. stay row.handle apart ∙ there)
 
-pub blocks_stay : (ceilings heights : Slab ℕ) (places others : Slab Place) (ys : List Row) (blocks : List Block) → ((handle : ℕ) → has_handle handle ys ≡ false → get others handle ≡ get places handle) → AllByRecursion (λ block. get heights block.number ≡ Some block.ceiling) blocks → AllByRecursion (λ x. has_handle x.handle ys ≡ false) (rows blocks) → AllByRecursion (IsPlaced ceilings places) blocks → AllByRecursion (IsPlaced heights others) blocks
+pub blocks_stay : (ceilings heights : Slab ℕ) (places others : Slab Location) (ys : List BlockRow) (blocks : List RowBlock) → ((handle : ℕ) → has_handle handle ys ≡ false → get others handle ≡ get places handle) → AllByRecursion (λ block. get heights block.number ≡ Some block.ceiling) blocks → AllByRecursion (λ x. has_handle x.handle ys ≡ false) (rows blocks) → AllByRecursion (IsPlaced ceilings places) blocks → AllByRecursion (IsPlaced heights others) blocks
 blocks_stay ceilings heights places others ys [] stay held apart h = tt
 blocks_stay ceilings heights places others ys (block ∷ blocks) stay held apart h = (
   record {

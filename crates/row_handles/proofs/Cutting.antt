@@ -4,10 +4,10 @@ use Rattle.std.{specs.List.AllByRecursion, proofs.lemmas.List.map-append, proofs
 use Rattle.key_lists.{proofs.Every.{every_weaker, every_both, every-append, every-map}, proofs.Parts.{every-take, every-drop, every_front, every_back, around}}
 use Rattle.slab.specs.Slab.{get}
 use Rattle.tick_model.specs.declared.update.ShiftRange.{ShiftRange}
-use Rattle.row_handles.{specs.declared.block.Block.Block, specs.declared.block.Row.Row, specs.declared.index.Index.Index, specs.Entries.{Ascend, AreDistinct}, specs.Blocks.{BeginAt, IsBlock, IsIndex, IsPlaced, entry_at, place_in, rows_of, rows, number_of}, specs.Moves.{AreRenamed, IsBeside, IsBesideRange, IsSplit, IsCut, has_handle}, proofs.EntryLists.{begin_has, from_begin}, proofs.Listings.{parts, own_block, own_ascend}, proofs.Places.{Keeps, fresh_number}, proofs.Inserting.rows_around, proofs.Moving.below_next, proofs.Apart.{own_handles, apart_front, apart_lower, apart_back, rows_stay, blocks_stay}}
+use Rattle.row_handles.{specs.declared.block.RowBlock.RowBlock, specs.declared.block.BlockRow.BlockRow, specs.declared.index.HandleIndex.HandleIndex, specs.Entries.{Ascend, AreDistinct}, specs.Blocks.{BeginAt, IsBlock, IsIndex, IsPlaced, entry_at, place_in, rows_of, rows, number_of}, specs.Moves.{AreRenamed, IsBeside, IsBesideRange, IsSplit, IsCut, has_handle}, proofs.EntryLists.{begin_has, from_begin}, proofs.Listings.{parts, own_block, own_ascend}, proofs.Places.{Keeps, fresh_number}, proofs.Inserting.rows_around, proofs.Moving.below_next, proofs.Apart.{own_handles, apart_front, apart_lower, apart_back, rows_stay, blocks_stay}}
 
 -- a block in two
-pub record Splits (from at : ℕ) (block left right : Block) (old new : Index) : Type 0 where
+pub record Splits (from at : ℕ) (block left right : RowBlock) (old new : HandleIndex) : Type 0 where
   pub within : at < length old.blocks.items
   pub is : block ≡ get_or old.blocks.items at block
   pub blocks : new.blocks.items ≡ take at old.blocks.items ++ left ∷ right ∷ drop (suc at) old.blocks.items
@@ -24,7 +24,7 @@ pub record Splits (from at : ℕ) (block left right : Block) (old new : Index) :
   pub held : get new.ceilings right.number ≡ Some block.ceiling
   pub renamed : AreRenamed right.number (drop from block.rows.items) old.places new.places
 
-begin_part : (first ceiling from : ℕ) (xs : List Row) → 0 < from → BeginAt first (map (entry_at ceiling) xs) → BeginAt first (map (entry_at ceiling) (take from xs))
+begin_part : (first ceiling from : ℕ) (xs : List BlockRow) → 0 < from → BeginAt first (map (entry_at ceiling) xs) → BeginAt first (map (entry_at ceiling) (take from xs))
 begin_part first ceiling zero xs some begin = absurd (omega arith)
 begin_part first ceiling (suc from) [] some begin = begin
 begin_part first ceiling (suc from) (x ∷ xs) some begin = begin
@@ -35,8 +35,8 @@ distinct_after n m (x ∷ xs) ys h own k d =
     let rest = every_back (λ y. x ≢ y) xs (m ∷ ys) d.0 in
     (every-append (λ y. x ≢ y) xs (m ∷ n ∷ ys) (every_front (λ y. x ≢ y) xs (m ∷ ys) d.0) (rest.0, (h.0, rest.1)), distinct_after n m xs ys h.1 own k d.1)
 
-module _ (from at : ℕ) (block left right : Block) (old new : Index) (sound : IsIndex old) (splits : Splits from at block left right old new) where
-  abbrev items : List Row
+module _ (from at : ℕ) (block left right : RowBlock) (old new : HandleIndex) (sound : IsIndex old) (splits : Splits from at block left right old new) where
+  abbrev items : List BlockRow
   items = block.rows.items
 
   whole : items ≡ take from items ++ (drop from items ++ [])
@@ -83,13 +83,13 @@ module _ (from at : ℕ) (block left right : Block) (old new : Index) (sound : I
     held = subst (λ c. AllByRecursion (λ row. row.depth ≤ c) right.rows.items) (sym splits.right_ceiling) (subst (AllByRecursion (λ row. row.depth ≤ block.ceiling)) (sym splits.right_rows) (every-drop (λ row. row.depth ≤ block.ceiling) from items is_block.held));
   }
 
-  in_place : (P : Block → Type 0) → P left → P right → AllByRecursion P (take at old.blocks.items) → AllByRecursion P (drop (suc at) old.blocks.items) → AllByRecursion P new.blocks.items
+  in_place : (P : RowBlock → Type 0) → P left → P right → AllByRecursion P (take at old.blocks.items) → AllByRecursion P (drop (suc at) old.blocks.items) → AllByRecursion P new.blocks.items
   in_place P one two h k = subst (AllByRecursion P) (sym splits.blocks) (every-append P (take at old.blocks.items) (left ∷ right ∷ drop (suc at) old.blocks.items) h (one, (two, k)))
 
   own_place : IsPlaced old.ceilings old.places block
   own_place = own_block (IsPlaced old.ceilings old.places) old.blocks.items at block splits.within splits.is sound.placed
 
-  held_all : (blocks : List Block) → AllByRecursion (IsPlaced old.ceilings old.places) blocks → AllByRecursion (λ b. get new.ceilings b.number ≡ Some b.ceiling) blocks
+  held_all : (blocks : List RowBlock) → AllByRecursion (IsPlaced old.ceilings old.places) blocks → AllByRecursion (λ b. get new.ceilings b.number ≡ Some b.ceiling) blocks
   held_all blocks = every_weaker (IsPlaced old.ceilings old.places) (λ b. get new.ceilings b.number ≡ Some b.ceiling) blocks (λ b is. splits.ceilings b.number b.ceiling is.ceiling)
 
   left_placed : IsPlaced new.ceilings new.places left
@@ -142,23 +142,23 @@ module _ (from at : ℕ) (block left right : Block) (old new : Index) (sound : I
           distinct_after right.number block.number fronts backs (every_front (λ n. n ≢ right.number) fronts (block.number ∷ backs) fresh) late.0 late.1 (subst AreDistinct all sound.numbered)
 
 -- where a list of rows begins
-pub begins_first : (first ceiling : ℕ) (row : Row) (xs : List Row) → 0 < length xs → row ≡ get_or xs 0 row → first ≡ ceiling - row.depth → BeginAt first (map (entry_at ceiling) xs)
+pub begins_first : (first ceiling : ℕ) (row : BlockRow) (xs : List BlockRow) → 0 < length xs → row ≡ get_or xs 0 row → first ≡ ceiling - row.depth → BeginAt first (map (entry_at ceiling) xs)
 begins_first first ceiling row [] some is e = absurd (omega arith)
 begins_first first ceiling row (x ∷ xs) some is e = ap (λ r. ceiling - r.depth) (sym is) ∙ sym e
 
 -- blocks of rows on one side of a key
-beside_below : (key : ℕ) (blocks : List Block) → AllByRecursion (λ x. x.key < key) (rows blocks) → AllByRecursion (IsBeside key) blocks
+beside_below : (key : ℕ) (blocks : List RowBlock) → AllByRecursion (λ x. x.key < key) (rows blocks) → AllByRecursion (IsBeside key) blocks
 beside_below key [] h = tt
 beside_below key (block ∷ blocks) h = (inr (every_front (λ x. x.key < key) (rows_of block) (rows blocks) h), beside_below key blocks (every_back (λ x. x.key < key) (rows_of block) (rows blocks) h))
 
-pub beside_above : (key : ℕ) (blocks : List Block) → AllByRecursion (λ block. key < block.first) blocks → AllByRecursion (IsBeside key) blocks
+pub beside_above : (key : ℕ) (blocks : List RowBlock) → AllByRecursion (λ block. key < block.first) blocks → AllByRecursion (IsBeside key) blocks
 beside_above key blocks = every_weaker (λ block. key < block.first) (IsBeside key) blocks (λ block lt. inl (omega arith))
 
-pub cut_none : (key : ℕ) (blocks : List Block) → AllByRecursion (IsBeside key) blocks → IsCut key blocks blocks
+pub cut_none : (key : ℕ) (blocks : List RowBlock) → AllByRecursion (IsBeside key) blocks → IsCut key blocks blocks
 cut_none key blocks beside = record { beside = beside; others = λ other h. h }
 
 -- the last block that begins at a key or before it
-pub record Found (key : ℕ) (blocks : List Block) (at from : ℕ) (block : Block) : Type 0 where
+pub record Found (key : ℕ) (blocks : List RowBlock) (at from : ℕ) (block : RowBlock) : Type 0 where
   pub within : at < length blocks
   pub is : block ≡ get_or blocks at block
   pub sound : AllByRecursion IsBlock blocks
@@ -168,7 +168,7 @@ pub record Found (key : ℕ) (blocks : List Block) (at from : ℕ) (block : Bloc
   pub below : AllByRecursion (λ row. block.ceiling - row.depth < key) (take from block.rows.items)
   pub others : AllByRecursion (λ row. key ≤ block.ceiling - row.depth) (drop from block.rows.items)
 
-module _ (key : ℕ) (blocks : List Block) (at from : ℕ) (block : Block) (found : Found key blocks at from block) where
+module _ (key : ℕ) (blocks : List RowBlock) (at from : ℕ) (block : RowBlock) (found : Found key blocks at from block) where
   found_block : IsBlock block
   found_block = own_block IsBlock blocks at block found.within found.is found.sound
 
@@ -185,7 +185,7 @@ module _ (key : ℕ) (blocks : List Block) (at from : ℕ) (block : Block) (foun
   found_past e =
       found_none (inr (every-map (λ x. x.key < key) (entry_at block.ceiling) block.rows.items (subst (AllByRecursion (λ row. block.ceiling - row.depth < key)) e found.below)))
 
-  pub found_cut : (new : List Block) → IsSplit from block at blocks new → IsCut key blocks new
+  pub found_cut : (new : List RowBlock) → IsSplit from block at blocks new → IsCut key blocks new
   found_cut new split = record {
     beside =
         in_new (IsBeside key) (inr (subst (AllByRecursion (λ x. x.key < key)) (sym split.left_rows) (every-map (λ x. x.key < key) (entry_at block.ceiling) (take from block.rows.items) found.below)))
@@ -196,7 +196,7 @@ module _ (key : ℕ) (blocks : List Block) (at from : ℕ) (block : Block) (foun
         in_new (IsBeside other) (left_beside other own) (right_beside other own) (every-take (IsBeside other) at blocks h) (every-drop (IsBeside other) (suc at) blocks h);
   }
     where
-      in_new : (P : Block → Type 0) → P split.left → P split.right → AllByRecursion P (take at blocks) → AllByRecursion P (drop (suc at) blocks) → AllByRecursion P new
+      in_new : (P : RowBlock → Type 0) → P split.left → P split.right → AllByRecursion P (take at blocks) → AllByRecursion P (drop (suc at) blocks) → AllByRecursion P new
       in_new P one two h k = subst (AllByRecursion P) (sym split.list) (every-append P (take at blocks) (split.left ∷ split.right ∷ drop (suc at) blocks) h (one, (two, k)))
 
       two_rows : rows_of block ≡ rows_of split.left ++ rows_of split.right
@@ -213,13 +213,13 @@ module _ (key : ℕ) (blocks : List Block) (at from : ℕ) (block : Block) (foun
           inl (begin_has (λ k. other ≤ k) split.right.first (rows_of split.right) split.right_first (every_weaker (λ x. block.first ≤ x.key) (λ x. other ≤ x.key) (rows_of split.right) (λ x ge. omega (arith, le, ge)) late))
       right_beside other (inr h) = inr (every_back (λ x. x.key < other) (rows_of split.left) (rows_of split.right) (subst (AllByRecursion (λ x. x.key < other)) two_rows h))
 
-pub beside_kept : (key : ℕ) (old new : List Block) (range : ShiftRange) → IsCut key old new → AllByRecursion (IsBesideRange range) old → AllByRecursion (IsBesideRange range) new
+pub beside_kept : (key : ℕ) (old new : List RowBlock) (range : ShiftRange) → IsCut key old new → AllByRecursion (IsBesideRange range) old → AllByRecursion (IsBesideRange range) new
 beside_kept key old new range is h =
     every_both (IsBeside range.begin) (IsBeside (range.end + 1)) (IsBesideRange range) new (λ block a b. (a, b))
     (is.others range.begin (every_weaker (IsBesideRange range) (IsBeside range.begin) old (λ block both. both.0) h))
     (is.others (range.end + 1) (every_weaker (IsBesideRange range) (IsBeside (range.end + 1)) old (λ block both. both.1) h))
 
-pub found_made : (key : ℕ) (blocks : List Block) (next from : ℕ) (block : Block) → next ≢ 0 → next ≤ length blocks → block ≡ get_or blocks (next - 1) block → AllByRecursion IsBlock blocks → Ascend (rows blocks) → AllByRecursion (λ other. other.first ≤ key) (take next blocks) → AllByRecursion (λ other. key < other.first) (drop next blocks) → AllByRecursion (λ row. block.ceiling - row.depth < key) (take from block.rows.items) → AllByRecursion (λ row. key ≤ block.ceiling - row.depth) (drop from block.rows.items) → Found key blocks (next - 1) from block
+pub found_made : (key : ℕ) (blocks : List RowBlock) (next from : ℕ) (block : RowBlock) → next ≢ 0 → next ≤ length blocks → block ≡ get_or blocks (next - 1) block → AllByRecursion IsBlock blocks → Ascend (rows blocks) → AllByRecursion (λ other. other.first ≤ key) (take next blocks) → AllByRecursion (λ other. key < other.first) (drop next blocks) → AllByRecursion (λ row. block.ceiling - row.depth < key) (take from block.rows.items) → AllByRecursion (λ row. key ≤ block.ceiling - row.depth) (drop from block.rows.items) → Found key blocks (next - 1) from block
 found_made key blocks next from block some within is sound ascend begun above below others = record {
   within = omega (arith, some, within);
   is = is;

@@ -3,7 +3,7 @@ use Rattle.std.proofs.Common.{◌≡◌, ◌≢◌, ap, sym, ◌∙◌, subst, �
 use Rattle.std.{specs.Prelude.OnErr, specs.List.AllByRecursion, proofs.lemmas.List.map-append, proofs.lemmas.Grind.flat_map-append, proofs.Math.Seq.map-set_same}
 use Rattle.key_lists.{proofs.Every.{every-append, every-map}, proofs.Parts.{every-take, every-drop, every_front, every_back, around, set_around, every_set}}
 use Rattle.slab.specs.Slab.{get}
-use Rattle.row_handles.{specs.declared.block.Block.Block, specs.declared.block.Row.Row, specs.declared.index.Index.Index, specs.Entries.{Entry, entry_of, with_row, handle_under, Ascend, AreDistinct}, specs.Blocks.{BeginAt, IsBlock, IsIndex, IsPlaced, entry_at, place_in, rows_of, rows, number_of}, specs.Moves.IsBeside, proofs.Lists.distinct_more, proofs.EntryLists.{absent_all, with_row-between, ascend_between, begin_has, ascend_back}, proofs.Listings.{parts, rows_above, own_block}, proofs.Places.{Keeps, placed_kept, fresh_number}}
+use Rattle.row_handles.{specs.declared.block.RowBlock.RowBlock, specs.declared.block.BlockRow.BlockRow, specs.declared.index.HandleIndex.HandleIndex, specs.Entries.{Entry, entry_of, with_row, handle_under, Ascend, AreDistinct}, specs.Blocks.{BeginAt, IsBlock, IsIndex, IsPlaced, entry_at, place_in, rows_of, rows, number_of}, specs.Moves.IsBeside, proofs.Lists.distinct_more, proofs.EntryLists.{absent_all, with_row-between, ascend_between, begin_has, ascend_back}, proofs.Listings.{parts, rows_above, own_block}, proofs.Places.{Keeps, placed_kept, fresh_number}}
 
 -- one row more between those of smaller keys and those of greater ones
 pub record IsOneMore (key handle : ℕ) (old new : List Entry) : Type 0 where
@@ -36,7 +36,7 @@ begin_more first key handle (x ∷ xs) ys begin below above = least first key x.
     least : (a b c : ℕ) → c ≡ a → c < b → c ≡ min a b
     least a b c e lt = omega arith
 
-strictly : (key : ℕ) (ceiling : ℕ) (xs : List Row) → AllByRecursion (λ row. key ≤ ceiling - row.depth) xs → AllByRecursion (λ x. x.key ≢ key) (map (entry_at ceiling) xs) → AllByRecursion (λ y. key < y.key) (map (entry_at ceiling) xs)
+strictly : (key : ℕ) (ceiling : ℕ) (xs : List BlockRow) → AllByRecursion (λ row. key ≤ ceiling - row.depth) xs → AllByRecursion (λ x. x.key ≢ key) (map (entry_at ceiling) xs) → AllByRecursion (λ y. key < y.key) (map (entry_at ceiling) xs)
 strictly key ceiling [] h absent = tt
 strictly key ceiling (x ∷ xs) h absent = (above key (ceiling - x.depth) h.0 absent.0, strictly key ceiling xs h.1 absent.1)
   where
@@ -44,39 +44,39 @@ strictly key ceiling (x ∷ xs) h absent = (above key (ceiling - x.depth) h.0 ab
     above a b le ne = omega arith
 
 -- the rows of a list of blocks around one of them
-pub rows_around : (blocks : List Block) (i : ℕ) (block : Block) → i < length blocks → block ≡ get_or blocks i block → rows blocks ≡ rows (take i blocks) ++ (rows_of block ++ rows (drop (suc i) blocks))
+pub rows_around : (blocks : List RowBlock) (i : ℕ) (block : RowBlock) → i < length blocks → block ≡ get_or blocks i block → rows blocks ≡ rows (take i blocks) ++ (rows_of block ++ rows (drop (suc i) blocks))
 rows_around blocks i block lt is = ap rows (around blocks i block lt is) ∙ flat_map-append rows_of (take i blocks) (block ∷ drop (suc i) blocks)
 
-pub rows_set : (blocks : List Block) (i : ℕ) (block : Block) → i < length blocks → rows (set blocks i block) ≡ rows (take i blocks) ++ (rows_of block ++ rows (drop (suc i) blocks))
+pub rows_set : (blocks : List RowBlock) (i : ℕ) (block : RowBlock) → i < length blocks → rows (set blocks i block) ≡ rows (take i blocks) ++ (rows_of block ++ rows (drop (suc i) blocks))
 rows_set blocks i block lt = ap rows (set_around blocks i block lt) ∙ flat_map-append rows_of (take i blocks) (block ∷ drop (suc i) blocks)
 
 regroup : (xs ys zs ws : List Entry) → xs ++ ((ys ++ zs) ++ ws) ≡ (xs ++ ys) ++ (zs ++ ws)
 regroup xs ys zs ws = ap (λ s. xs ++ s) (append_assoc ys zs ws) ∙ sym (append_assoc xs ys (zs ++ ws))
 
 -- other blocks of the same rows
-pub record IsSame (block other : Block) : Type 0 where
+pub record IsSame (block other : RowBlock) : Type 0 where
   pub number : other.number ≡ block.number
   pub first : other.first ≡ block.first
   pub ceiling : other.ceiling ≡ block.ceiling
   pub rows : other.rows.items ≡ block.rows.items
 
-same_rows : (block other : Block) → IsSame block other → rows_of other ≡ rows_of block
+same_rows : (block other : RowBlock) → IsSame block other → rows_of other ≡ rows_of block
 same_rows block other same = ap (λ c. map (entry_at c) other.rows.items) same.ceiling ∙ ap (map (entry_at block.ceiling)) same.rows
 
-same_block : (block other : Block) → IsSame block other → IsBlock block → IsBlock other
+same_block : (block other : RowBlock) → IsSame block other → IsBlock block → IsBlock other
 same_block block other same is = record {
   begun = subst (λ n. BeginAt n (rows_of other)) (sym same.first) (subst (BeginAt block.first) (sym (same_rows block other same)) is.begun);
   held = subst (λ c. AllByRecursion (λ row. row.depth ≤ c) other.rows.items) (sym same.ceiling) (subst (AllByRecursion (λ row. row.depth ≤ block.ceiling)) (sym same.rows) is.held);
 }
 
-pub kept_rows : (blocks : List Block) (at : ℕ) (block other : Block) → at < length blocks → block ≡ get_or blocks at block → IsSame block other → rows (set blocks at other) ≡ rows blocks
+pub kept_rows : (blocks : List RowBlock) (at : ℕ) (block other : RowBlock) → at < length blocks → block ≡ get_or blocks at block → IsSame block other → rows (set blocks at other) ≡ rows blocks
 kept_rows blocks at block other within is same =
     rows_set blocks at other within
     ∙ ap (λ s. rows (take at blocks) ++ (s ++ rows (drop (suc at) blocks))) (same_rows block other same)
     ∙ sym (rows_around blocks at block within is)
 
 -- the same blocks, with places that keep what they had
-pub same_index : (old new : Index) → new.blocks.items ≡ old.blocks.items → Keeps old.ceilings new.ceilings → Keeps old.places new.places → IsIndex old → IsIndex new
+pub same_index : (old new : HandleIndex) → new.blocks.items ≡ old.blocks.items → Keeps old.ceilings new.ceilings → Keeps old.places new.places → IsIndex old → IsIndex new
 same_index old new same ceilings places sound = record {
   sound = subst (AllByRecursion IsBlock) (sym same) sound.sound;
   ascend = subst (λ bs. Ascend (rows bs)) (sym same) sound.ascend;
@@ -85,7 +85,7 @@ same_index old new same ceilings places sound = record {
   placed = subst (AllByRecursion (IsPlaced new.ceilings new.places)) (sym same) (placed_kept old.ceilings new.ceilings old.places new.places old.blocks.items ceilings places sound.placed);
 }
 
-module _ (old new : Index) (at : ℕ) (block other : Block) (within : at < length old.blocks.items) (is : block ≡ get_or old.blocks.items at block) (same : IsSame block other) (blocks : new.blocks.items ≡ set old.blocks.items at other) (ceilings : Keeps old.ceilings new.ceilings) (places : Keeps old.places new.places) where
+module _ (old new : HandleIndex) (at : ℕ) (block other : RowBlock) (within : at < length old.blocks.items) (is : block ≡ get_or old.blocks.items at block) (same : IsSame block other) (blocks : new.blocks.items ≡ set old.blocks.items at other) (ceilings : Keeps old.ceilings new.ceilings) (places : Keeps old.places new.places) where
   rows_kept : rows new.blocks.items ≡ rows old.blocks.items
   rows_kept = ap rows blocks ∙ kept_rows old.blocks.items at block other within is same
 
@@ -111,7 +111,7 @@ module _ (old new : Index) (at : ℕ) (block other : Block) (within : at < lengt
       }
 
 -- a row that comes into a block
-pub record Inserts (key depth handle at place : ℕ) (block other : Block) (old new : Index) : Type 0 where
+pub record Inserts (key depth handle at place : ℕ) (block other : RowBlock) (old new : HandleIndex) : Type 0 where
   pub within : at < length old.blocks.items
   pub is : block ≡ get_or old.blocks.items at block
   pub blocks : new.blocks.items ≡ set old.blocks.items at other
@@ -129,8 +129,8 @@ pub record Inserts (key depth handle at place : ℕ) (block other : Block) (old 
   pub places : Keeps old.places new.places
   pub placed : get new.places handle ≡ Some (place_in block.number depth)
 
-module _ (key depth handle at place : ℕ) (block other : Block) (old new : Index) (sound : IsIndex old) (inserts : Inserts key depth handle at place block other old new) where
-  abbrev row : Row
+module _ (key depth handle at place : ℕ) (block other : RowBlock) (old new : HandleIndex) (sound : IsIndex old) (inserts : Inserts key depth handle at place block other old new) where
+  abbrev row : BlockRow
   row = record { depth = depth; handle = handle }
 
   abbrev lower : List Entry
@@ -210,7 +210,7 @@ module _ (key depth handle at place : ℕ) (block other : Block) (old new : Inde
   own_place : IsPlaced new.ceilings new.places block
   own_place = own_block (IsPlaced new.ceilings new.places) old.blocks.items at block inserts.within inserts.is kept_places
 
-  abbrev Stands : Row → Type 0
+  abbrev Stands : BlockRow → Type 0
   Stands row = get new.places row.handle ≡ Some (place_in block.number row.depth)
 
   other_placed : IsPlaced new.ceilings new.places other
@@ -232,7 +232,7 @@ module _ (key depth handle at place : ℕ) (block other : Block) (old new : Inde
   }
 
 -- a row that comes in a block of its own
-pub record Begins (key depth handle next : ℕ) (block : Block) (old new : Index) : Type 0 where
+pub record Begins (key depth handle next : ℕ) (block : RowBlock) (old new : HandleIndex) : Type 0 where
   pub blocks : new.blocks.items ≡ take next old.blocks.items ++ block ∷ drop next old.blocks.items
   pub items : block.rows.items ≡ (record { depth = depth; handle = handle }) ∷ []
   pub first : block.first ≡ key
@@ -248,7 +248,7 @@ pub record Begins (key depth handle next : ℕ) (block : Block) (old new : Index
   pub placed : get new.places handle ≡ Some (place_in block.number depth)
 
 -- the rows of blocks that begin before a key and stand beside it
-below_beside : (key : ℕ) (blocks : List Block) → AllByRecursion IsBlock blocks → AllByRecursion (λ block. block.first ≤ key) blocks → AllByRecursion (IsBeside key) blocks → AllByRecursion (λ x. x.key ≢ key) (rows blocks) → AllByRecursion (λ x. x.key < key) (rows blocks)
+below_beside : (key : ℕ) (blocks : List RowBlock) → AllByRecursion IsBlock blocks → AllByRecursion (λ block. block.first ≤ key) blocks → AllByRecursion (IsBeside key) blocks → AllByRecursion (λ x. x.key ≢ key) (rows blocks) → AllByRecursion (λ x. x.key < key) (rows blocks)
 below_beside key [] sound begun beside absent = tt
 below_beside key (block ∷ blocks) sound begun beside absent =
     every-append (λ x. x.key < key) (rows_of block) (rows blocks) (own beside.0) (below_beside key blocks sound.1 begun.1 beside.1 (every_back (λ x. x.key ≢ key) (rows_of block) (rows blocks) absent))
@@ -257,7 +257,7 @@ below_beside key (block ∷ blocks) sound begun beside absent =
     own (inl le) = absurd (begin_has (λ k. k ≢ key) block.first (rows_of block) sound.0.begun (every_front (λ x. x.key ≢ key) (rows_of block) (rows blocks) absent) (omega (arith, le, begun.0)))
     own (inr h) = h
 
-module _ (key depth handle next : ℕ) (block : Block) (old new : Index) (sound : IsIndex old) (begins : Begins key depth handle next block old new) where
+module _ (key depth handle next : ℕ) (block : RowBlock) (old new : HandleIndex) (sound : IsIndex old) (begins : Begins key depth handle next block old new) where
   abbrev early : List Entry
   early = rows (take next old.blocks.items)
 
@@ -297,7 +297,7 @@ module _ (key depth handle next : ℕ) (block : Block) (old new : Index) (sound 
     rows = subst (AllByRecursion (λ row. get new.places row.handle ≡ Some (place_in block.number row.depth))) (sym begins.items) (begins.placed, tt);
   }
 
-  in_place : (P : Block → Type 0) → P block → AllByRecursion P old.blocks.items → AllByRecursion P new.blocks.items
+  in_place : (P : RowBlock → Type 0) → P block → AllByRecursion P old.blocks.items → AllByRecursion P new.blocks.items
   in_place P own h = subst (AllByRecursion P) (sym begins.blocks) (every-append P (take next old.blocks.items) (block ∷ drop next old.blocks.items) (every-take P next old.blocks.items h) (own, every-drop P next old.blocks.items h))
 
   pub begun_index : key < 2 ^ 62 → IsIndex new

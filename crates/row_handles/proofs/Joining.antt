@@ -3,40 +3,40 @@ use Rattle.std.proofs.Common.{◌≡◌, ◌≢◌, refl, ap, sym, ◌∙◌, su
 use Rattle.std.{specs.List.{AllByRecursion, remove}, proofs.lemmas.Bool.ne_eqb, proofs.lemmas.List.map-append, proofs.lemmas.Grind.flat_map-append, proofs.Math.Seq.take-suc}
 use Rattle.key_lists.{specs.Keys.is_among, proofs.Every.{every_weaker, every_both, every-append, every-map, every_unmapped}, proofs.Parts.{every-take, every-drop, every_front, every_back, every_at, around, every_next}}
 use Rattle.slab.specs.Slab.{Slab, ContainsKey, get, Updates}
-use Rattle.row_handles.{specs.declared.block.Block.Block, specs.declared.block.Row.Row, specs.declared.index.Place.Place, specs.declared.index.Index.Index, specs.Entries.{Entry, handles_of, Ascend, AreDistinct}, specs.Blocks.{AreRowsUnder, BeginAt, IsBlock, IsIndex, IsPlaced, entry_at, place_in, rows_of, rows, number_of}, specs.Moves.{handle_in, has_handle}, proofs.Lists.distinct_less, proofs.Listings.{own_block, own_ascend}, proofs.Places.{located_rows, distinct}, proofs.Inserting.rows_around, proofs.Apart.{apart_front, apart_back, blocks_stay}, proofs.Leaving.{all_held, held_less}}
+use Rattle.row_handles.{specs.declared.block.RowBlock.RowBlock, specs.declared.block.BlockRow.BlockRow, specs.declared.index.Location.Location, specs.declared.index.HandleIndex.HandleIndex, specs.Entries.{Entry, handles_of, Ascend, AreDistinct}, specs.Blocks.{AreRowsUnder, BeginAt, IsBlock, IsIndex, IsPlaced, entry_at, place_in, rows_of, rows, number_of}, specs.Moves.{handle_in, has_handle}, proofs.Lists.distinct_less, proofs.Listings.{own_block, own_ascend}, proofs.Places.{located_rows, distinct}, proofs.Inserting.rows_around, proofs.Apart.{apart_front, apart_back, blocks_stay}, proofs.Leaving.{all_held, held_less}}
 
 -- rows of distinct handles that are put into a block one by one
-ne_before : (xs : List Row) (i : ℕ) (d : Row) → i < length xs → AreDistinct (map handle_in xs) → AllByRecursion (λ row. row.handle ≢ (get_or xs i d).handle) (take i xs)
+ne_before : (xs : List BlockRow) (i : ℕ) (d : BlockRow) → i < length xs → AreDistinct (map handle_in xs) → AllByRecursion (λ row. row.handle ≢ (get_or xs i d).handle) (take i xs)
 ne_before [] i d lt apart = absurd (omega arith)
 ne_before (x ∷ xs) zero d lt apart = tt
 ne_before (x ∷ xs) (suc i) d lt apart = (every_at (λ row. x.handle ≢ row.handle) xs i d (omega arith) (every_unmapped (λ other. x.handle ≢ other) handle_in xs apart.0), ne_before xs i d (omega arith) apart.1)
 
-none_of : (handle : ℕ) (xs : List Row) → AllByRecursion (λ row. row.handle ≢ handle) xs → has_handle handle xs ≡ false
+none_of : (handle : ℕ) (xs : List BlockRow) → AllByRecursion (λ row. row.handle ≢ handle) xs → has_handle handle xs ≡ false
 none_of handle [] h = refl
 none_of handle (x ∷ xs) h = ap (λ b. b || has_handle handle xs) (ne_eqb x.handle handle h.0) ∙ none_of handle xs h.1
 
-pub fresh_at : (xs : List Row) (i : ℕ) (d : Row) → i < length xs → AreDistinct (map handle_in xs) → has_handle (get_or xs i d).handle (take i xs) ≡ false
+pub fresh_at : (xs : List BlockRow) (i : ℕ) (d : BlockRow) → i < length xs → AreDistinct (map handle_in xs) → has_handle (get_or xs i d).handle (take i xs) ≡ false
 fresh_at xs i d lt apart = none_of (get_or xs i d).handle (take i xs) (ne_before xs i d lt apart)
 
-pub settled_more : (number : ℕ) (xs : List Row) (i : ℕ) (d : Row) (mid new : Slab Place) → i < length xs → AreDistinct (map handle_in xs) → Updates mid new (get_or xs i d).handle (Some (place_in number (get_or xs i d).depth)) → AllByRecursion (λ row. get mid row.handle ≡ Some (place_in number row.depth)) (take i xs) → AllByRecursion (λ row. get new row.handle ≡ Some (place_in number row.depth)) (take (i + 1) xs)
+pub settled_more : (number : ℕ) (xs : List BlockRow) (i : ℕ) (d : BlockRow) (mid new : Slab Location) → i < length xs → AreDistinct (map handle_in xs) → Updates mid new (get_or xs i d).handle (Some (place_in number (get_or xs i d).depth)) → AllByRecursion (λ row. get mid row.handle ≡ Some (place_in number row.depth)) (take i xs) → AllByRecursion (λ row. get new row.handle ≡ Some (place_in number row.depth)) (take (i + 1) xs)
 settled_more number xs i d mid new lt apart updates settled =
     every_next (λ row. get new row.handle ≡ Some (place_in number row.depth)) xs i d lt updates.changed
     (every_both (λ row. row.handle ≢ (get_or xs i d).handle) (λ row. get mid row.handle ≡ Some (place_in number row.depth)) (λ row. get new row.handle ≡ Some (place_in number row.depth)) (take i xs) (λ row ne there. updates.others row.handle ne ∙ there) (ne_before xs i d lt apart) settled)
 
 -- handles of rows below two ceilings
-handles_entries : (ceiling : ℕ) (xs : List Row) → map handle_in xs ≡ handles_of (map (entry_at ceiling) xs)
+handles_entries : (ceiling : ℕ) (xs : List BlockRow) → map handle_in xs ≡ handles_of (map (entry_at ceiling) xs)
 handles_entries ceiling [] = refl
 handles_entries ceiling (x ∷ xs) = ap (λ ns. x.handle ∷ ns) (handles_entries ceiling xs)
 
-has_by : (handle : ℕ) (xs : List Row) → has_handle handle xs ≡ is_among handle (map handle_in xs)
+has_by : (handle : ℕ) (xs : List BlockRow) → has_handle handle xs ≡ is_among handle (map handle_in xs)
 has_by handle [] = refl
 has_by handle (x ∷ xs) = ap (λ b. x.handle == handle || b) (has_by handle xs)
 
-handles_same : (ceiling : ℕ) (moved : List Row) (block : Block) → AreRowsUnder ceiling moved (rows_of block) → map handle_in moved ≡ map handle_in block.rows.items
+handles_same : (ceiling : ℕ) (moved : List BlockRow) (block : RowBlock) → AreRowsUnder ceiling moved (rows_of block) → map handle_in moved ≡ map handle_in block.rows.items
 handles_same ceiling moved block under = handles_entries ceiling moved ∙ ap handles_of under.same ∙ sym (handles_entries block.ceiling block.rows.items)
 
 -- the handles of rows that are to be moved to another block
-module _ (index : Index) (sound : IsIndex index) (at : ℕ) (block : Block) (within : at < length index.blocks.items) (is : block ≡ get_or index.blocks.items at block) (ceiling : ℕ) (moved : List Row) (under : AreRowsUnder ceiling moved (rows_of block)) where
+module _ (index : HandleIndex) (sound : IsIndex index) (at : ℕ) (block : RowBlock) (within : at < length index.blocks.items) (is : block ≡ get_or index.blocks.items at block) (ceiling : ℕ) (moved : List BlockRow) (under : AreRowsUnder ceiling moved (rows_of block)) where
   own_place : IsPlaced index.ceilings index.places block
   own_place = own_block (IsPlaced index.ceilings index.places) index.blocks.items at block within is sound.placed
 
@@ -57,7 +57,7 @@ begin_longer key [] ys begin = absurd begin
 begin_longer key (x ∷ xs) ys begin = begin
 
 -- the rows of a block that go to the block before it
-pub record Joins (at : ℕ) (left right joined : Block) (moved : List Row) (old new : Index) : Type 0 where
+pub record Joins (at : ℕ) (left right joined : RowBlock) (moved : List BlockRow) (old new : HandleIndex) : Type 0 where
   pub left_is : left ≡ get_or old.blocks.items at left
   pub within : suc at < length old.blocks.items
   pub right_is : right ≡ get_or old.blocks.items (suc at) right
@@ -71,11 +71,11 @@ pub record Joins (at : ℕ) (left right joined : Block) (moved : List Row) (old 
   pub settled : AllByRecursion (λ row. get new.places row.handle ≡ Some (place_in left.number row.depth)) moved
   pub others : (handle : ℕ) → has_handle handle moved ≡ false → get new.places handle ≡ get old.places handle
 
-module _ (at : ℕ) (left right joined : Block) (moved : List Row) (old new : Index) (sound : IsIndex old) (joins : Joins at left right joined moved old new) where
-  abbrev early : List Block
+module _ (at : ℕ) (left right joined : RowBlock) (moved : List BlockRow) (old new : HandleIndex) (sound : IsIndex old) (joins : Joins at left right joined moved old new) where
+  abbrev early : List RowBlock
   early = take at old.blocks.items
 
-  abbrev late : List Block
+  abbrev late : List RowBlock
   late = drop (suc (suc at)) old.blocks.items
 
   left_within : at < length old.blocks.items
@@ -125,7 +125,7 @@ module _ (at : ℕ) (left right joined : Block) (moved : List Row) (old new : In
   left_placed : IsPlaced new.ceilings new.places left
   left_placed = (every_back (IsPlaced new.ceilings new.places) early (left ∷ []) front_placed).0
 
-  abbrev Stands : Row → Type 0
+  abbrev Stands : BlockRow → Type 0
   Stands row = get new.places row.handle ≡ Some (place_in left.number row.depth)
 
   joined_placed : IsPlaced new.ceilings new.places joined

@@ -4,7 +4,7 @@ use Rattle.std.{specs.Prelude.slice_range, specs.List.{AllByRecursion, remove}, 
 use Rattle.key_lists.{proofs.Every.{every, every_weaker, every_both, every-append, every-map, every_unmapped, filter_none, filter_same, filter_all, filter_filter}, proofs.Among.among-append, proofs.Booleans.{and_false, neither}, proofs.Parts.{every-take, every-drop, every_front, every_back, around}, specs.Keys.is_among}
 use Rattle.row_set.{specs.declared.ranges.Range.Range, specs.Ranges.{keys_in, keys_of, IsRangeFrom, AreApart}, proofs.Held.among-in, proofs.Apart.each_range}
 use Rattle.slab.specs.Slab.{Slab, get, Updates}
-use Rattle.row_handles.{specs.declared.block.Block.Block, specs.declared.block.Row.Row, specs.declared.index.Index.Index, specs.Entries.{Entry, left_rows, Ascend, AreDistinct}, specs.Blocks.{IsBlock, IsIndex, IsPlaced, entry_at, place_in, rows_of, rows, number_of}, specs.Moves.has_handle, specs.Drops.{is_between, outside, left_by, AreOutside}, proofs.Lists.{distinct_less, others_of}, proofs.EntryLists.ascend_back, proofs.Listings.{rows_above, own_block, later_firsts}, proofs.Apart.{all_parts, apart_front, apart_lower, apart_upper, apart_back, rows_stay, blocks_stay}}
+use Rattle.row_handles.{specs.declared.block.RowBlock.RowBlock, specs.declared.block.BlockRow.BlockRow, specs.declared.index.HandleIndex.HandleIndex, specs.Entries.{Entry, left_rows, Ascend, AreDistinct}, specs.Blocks.{IsBlock, IsIndex, IsPlaced, entry_at, place_in, rows_of, rows, number_of}, specs.Moves.has_handle, specs.Drops.{is_between, outside, left_by, AreOutside}, proofs.Lists.{distinct_less, others_of}, proofs.EntryLists.ascend_back, proofs.Listings.{rows_above, own_block, later_firsts}, proofs.Apart.{all_parts, apart_front, apart_lower, apart_upper, apart_back, rows_stay, blocks_stay}}
 
 -- keys that are no keys from first to last, and keys that are
 between_not : (first last key : ℕ) → key < first → is_between first last key ≡ false
@@ -36,7 +36,7 @@ ascend_less [] ys zs h = ascend_back ys zs h
 ascend_less (x ∷ xs) ys zs h = (every_less (λ y. x.key < y.key) xs ys zs h.0, ascend_less xs ys zs h.1)
 
 -- the rows of a block that leave, and what the blocks are instead of it
-pub record Leaves (first last at from to : ℕ) (block : Block) (instead : List Block) (old new : Index) : Type 0 where
+pub record Leaves (first last at from to : ℕ) (block : RowBlock) (instead : List RowBlock) (old new : HandleIndex) : Type 0 where
   pub within : at < length old.blocks.items
   pub is : block ≡ get_or old.blocks.items at block
   pub blocks : new.blocks.items ≡ take at old.blocks.items ++ (instead ++ drop (suc at) old.blocks.items)
@@ -53,11 +53,11 @@ pub record Leaves (first last at from to : ℕ) (block : Block) (instead : List 
   pub back_held : AllByRecursion (λ b. get new.ceilings b.number ≡ Some b.ceiling) (drop (suc at) old.blocks.items)
   pub places : (handle : ℕ) → has_handle handle (slice_range block.rows.items from to) ≡ false → get new.places handle ≡ get old.places handle
 
-module _ (first last at from to : ℕ) (block : Block) (instead : List Block) (old new : Index) (sound : IsIndex old) (leaves : Leaves first last at from to block instead old new) where
-  abbrev items : List Row
+module _ (first last at from to : ℕ) (block : RowBlock) (instead : List RowBlock) (old new : HandleIndex) (sound : IsIndex old) (leaves : Leaves first last at from to block instead old new) where
+  abbrev items : List BlockRow
   items = block.rows.items
 
-  abbrev gone : List Row
+  abbrev gone : List BlockRow
   gone = slice_range items from to
 
   whole : items ≡ take from items ++ (gone ++ drop to items)
@@ -123,7 +123,7 @@ module _ (first last at from to : ℕ) (block : Block) (instead : List Block) (o
   own_place : IsPlaced old.ceilings old.places block
   own_place = own_block (IsPlaced old.ceilings old.places) old.blocks.items at block leaves.within leaves.is sound.placed
 
-  abbrev Stands : Row → Type 0
+  abbrev Stands : BlockRow → Type 0
   Stands row = get old.places row.handle ≡ Some (place_in block.number row.depth)
 
   kept_rows : AllByRecursion (λ row. get new.places row.handle ≡ Some (place_in block.number row.depth)) (take from items ++ drop to items)
@@ -157,7 +157,7 @@ module _ (first last at from to : ℕ) (block : Block) (instead : List Block) (o
   }
 
 -- the order of two searches in a block
-pub order_of : (first last ceiling from to : ℕ) (xs : List Row) → first ≤ last → from ≤ length xs → to ≤ length xs → AllByRecursion (λ row. ceiling - row.depth < first) (take from xs) → AllByRecursion (λ row. last + 1 ≤ ceiling - row.depth) (drop to xs) → from ≤ to
+pub order_of : (first last ceiling from to : ℕ) (xs : List BlockRow) → first ≤ last → from ≤ length xs → to ≤ length xs → AllByRecursion (λ row. ceiling - row.depth < first) (take from xs) → AllByRecursion (λ row. last + 1 ≤ ceiling - row.depth) (drop to xs) → from ≤ to
 order_of first last ceiling zero to xs le a b below above = omega arith
 order_of first last ceiling (suc from) zero [] le a b below above = absurd (omega arith)
 order_of first last ceiling (suc from) zero (x ∷ xs) le a b below above = absurd (omega (arith, below.0, above.0))
@@ -167,22 +167,22 @@ order_of first last ceiling (suc from) (suc to) (x ∷ xs) le a b below above =
     omega (arith, rest)
 
 -- the ceilings of the other blocks, when one is vacant
-pub held_less : (blocks : List Block) (at : ℕ) (block : Block) (old new : Slab ℕ) → at < length blocks → block ≡ get_or blocks at block → AreDistinct (map number_of blocks) → Updates old new block.number None → AllByRecursion (λ b. get old b.number ≡ Some b.ceiling) blocks → AllByRecursion (λ b. get new b.number ≡ Some b.ceiling) (take at blocks) × AllByRecursion (λ b. get new b.number ≡ Some b.ceiling) (drop (suc at) blocks)
+pub held_less : (blocks : List RowBlock) (at : ℕ) (block : RowBlock) (old new : Slab ℕ) → at < length blocks → block ≡ get_or blocks at block → AreDistinct (map number_of blocks) → Updates old new block.number None → AllByRecursion (λ b. get old b.number ≡ Some b.ceiling) blocks → AllByRecursion (λ b. get new b.number ≡ Some b.ceiling) (take at blocks) × AllByRecursion (λ b. get new b.number ≡ Some b.ceiling) (drop (suc at) blocks)
 held_less blocks at block old new within is distinct updates held =
     let apart = others_of block.number (map number_of (take at blocks)) (map number_of (drop (suc at) blocks)) (subst AreDistinct (ap (map number_of) (around blocks at block within is) ∙ map-append number_of (take at blocks) (block ∷ drop (suc at) blocks)) distinct) in (
       stay (take at blocks) (every_unmapped (λ n. n ≢ block.number) number_of (take at blocks) apart.0) (every-take (λ b. get old b.number ≡ Some b.ceiling) at blocks held),
       stay (drop (suc at) blocks) (every_unmapped (λ n. n ≢ block.number) number_of (drop (suc at) blocks) apart.1) (every-drop (λ b. get old b.number ≡ Some b.ceiling) (suc at) blocks held),
     )
   where
-    stay : (bs : List Block) → AllByRecursion (λ b. b.number ≢ block.number) bs → AllByRecursion (λ b. get old b.number ≡ Some b.ceiling) bs → AllByRecursion (λ b. get new b.number ≡ Some b.ceiling) bs
+    stay : (bs : List RowBlock) → AllByRecursion (λ b. b.number ≢ block.number) bs → AllByRecursion (λ b. get old b.number ≡ Some b.ceiling) bs → AllByRecursion (λ b. get new b.number ≡ Some b.ceiling) bs
     stay bs = every_both (λ b. b.number ≢ block.number) (λ b. get old b.number ≡ Some b.ceiling) (λ b. get new b.number ≡ Some b.ceiling) bs (λ b ne there. updates.others b.number ne ∙ there)
 
-pub distinct_gone : (blocks : List Block) (at : ℕ) (block : Block) → at < length blocks → block ≡ get_or blocks at block → AreDistinct (map number_of blocks) → AreDistinct (map number_of (take at blocks ++ drop (suc at) blocks))
+pub distinct_gone : (blocks : List RowBlock) (at : ℕ) (block : RowBlock) → at < length blocks → block ≡ get_or blocks at block → AreDistinct (map number_of blocks) → AreDistinct (map number_of (take at blocks ++ drop (suc at) blocks))
 distinct_gone blocks at block within is distinct =
     subst AreDistinct (sym (map-append number_of (take at blocks) (drop (suc at) blocks)))
     (distinct_less block.number (map number_of (take at blocks)) (map number_of (drop (suc at) blocks)) (subst AreDistinct (ap (map number_of) (around blocks at block within is) ∙ map-append number_of (take at blocks) (block ∷ drop (suc at) blocks)) distinct))
 
-pub all_held : (old : Index) → IsIndex old → AllByRecursion (λ b. get old.ceilings b.number ≡ Some b.ceiling) old.blocks.items
+pub all_held : (old : HandleIndex) → IsIndex old → AllByRecursion (λ b. get old.ceilings b.number ≡ Some b.ceiling) old.blocks.items
 all_held old sound = every_weaker (IsPlaced old.ceilings old.places) (λ b. get old.ceilings b.number ≡ Some b.ceiling) old.blocks.items (λ b is. is.ceiling) sound.placed
 
 -- lists with one element replaced, and then left out
@@ -190,14 +190,14 @@ pub set_removed : {X : Type 0} (xs : List X) (i : ℕ) (x : X) → i < length xs
 set_removed xs i x lt = ap (λ ys. ys ++ drop (suc i) (set xs i x)) (take-set xs i x) ∙ ap (λ ys. take i xs ++ ys) (drop-set-lt (suc i) xs i x (omega arith))
 
 -- the rows of the blocks from one on
-pub begin_later : (bound : ℕ) (blocks : List Block) (index : ℕ) (block : Block) → index < length blocks → block ≡ get_or blocks index block → AllByRecursion IsBlock blocks → Ascend (rows blocks) → bound < block.first → AllByRecursion (λ other. bound < other.first) (drop index blocks)
+pub begin_later : (bound : ℕ) (blocks : List RowBlock) (index : ℕ) (block : RowBlock) → index < length blocks → block ≡ get_or blocks index block → AllByRecursion IsBlock blocks → Ascend (rows blocks) → bound < block.first → AllByRecursion (λ other. bound < other.first) (drop index blocks)
 begin_later bound [] index block lt at sound ascend above = absurd (omega arith)
 begin_later bound (first ∷ blocks) zero block lt at sound ascend above =
     let own : bound < first.first = subst (λ b. bound < b.first) at above in
     (own, every_weaker (λ other. first.first < other.first) (λ other. bound < other.first) blocks (λ other more. omega (arith, own, more)) (later_firsts first blocks sound ascend))
 begin_later bound (first ∷ blocks) (suc index) block lt at sound ascend above = begin_later bound blocks index block (omega arith) at sound.1 (ascend_back (rows_of first) (rows blocks) ascend) above
 
-pub left_all : (first last : ℕ) (old : List Entry) (new : List Block) (index : ℕ) → outside first last (rows new) ≡ outside first last old → AllByRecursion IsBlock new → Ascend (rows new) → AreOutside first last (rows (take index new)) → AllByRecursion (λ block. last < block.first) (drop index new) → rows new ≡ outside first last old
+pub left_all : (first last : ℕ) (old : List Entry) (new : List RowBlock) (index : ℕ) → outside first last (rows new) ≡ outside first last old → AllByRecursion IsBlock new → Ascend (rows new) → AreOutside first last (rows (take index new)) → AllByRecursion (λ block. last < block.first) (drop index new) → rows new ≡ outside first last old
 left_all first last old new index rest sound ascend done above = sym (outside_all first last (rows new) all) ∙ rest
   where
     two : rows new ≡ rows (take index new) ++ rows (drop index new)

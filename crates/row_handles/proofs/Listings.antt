@@ -2,7 +2,7 @@
 use Rattle.std.proofs.Common.{◌≡◌, ◌≢◌, refl, ap, sym, ◌∙◌, subst, true, false, cond, ℕ, zero, suc, ◌-◌, ◌<◌, ◌≤◌, arith, List, [], ◌∷◌, ◌++◌, map, length, take, drop, get_or, Option, Some, None, leb, leb-true, leb-false, ltb, ltb-true, ltb-false, take-append-drop, take_all}
 use Rattle.std.{specs.Option.option_or, specs.Prelude.slice_get, specs.List.AllByRecursion, specs.List.Sorted.{IsPartitionPoint, IsPartitionedBy, IsNonDecreasingBy}, proofs.lemmas.Bool.eq-eqb, proofs.lemmas.List.Sorted.{IsPartitionedBy-leb, IsPartitionedBy-ltb}, proofs.lemmas.List.map-append, proofs.lemmas.List.Elements.recursion_from_All, proofs.lemmas.Option.get_or_from_slice_get, proofs.lemmas.Grind.flat_map-append}
 use Rattle.key_lists.{proofs.Every.{every_weaker, every-append, every-map, every_unmapped}, proofs.Parts.{every_front, every_back, front_part, back_part, every_at, around, last_taken}}
-use Rattle.row_handles.{specs.declared.block.Block.Block, specs.declared.block.Row.Row, specs.Entries.{handle_under, Ascend}, specs.Blocks.{IsBlock, entry_at, rows_of, rows}, proofs.EntryLists.{handle_under-append, handle_under-above, handle_under-below, ascend_front, ascend_back, begin_has, from_begin, begin_below, below_begin}}
+use Rattle.row_handles.{specs.declared.block.RowBlock.RowBlock, specs.declared.block.BlockRow.BlockRow, specs.Entries.{handle_under, Ascend}, specs.Blocks.{IsBlock, entry_at, rows_of, rows}, proofs.EntryLists.{handle_under-append, handle_under-above, handle_under-below, ascend_front, ascend_back, begin_has, from_begin, begin_below, below_begin}}
 
 -- what holds of the last holds of those that are no greater
 pub until_last : {X : Type 0} (f : X → ℕ) (P : X → Type 0) → ((x y : X) → f x ≤ f y → P y → P x) → (xs : List X) (last : X) → IsNonDecreasingBy f xs → slice_get xs (length xs - 1) ≡ Some last → P last → AllByRecursion P xs
@@ -14,7 +14,7 @@ until_last f P down xs last rise at p =
 lt_le : (a b : ℕ) → a < b → a ≤ b
 lt_le a b h = omega arith
 
-pub keys_rise : (ceiling : ℕ) (xs : List Row) → Ascend (map (entry_at ceiling) xs) → IsNonDecreasingBy (λ row. ceiling - row.depth) xs
+pub keys_rise : (ceiling : ℕ) (xs : List BlockRow) → Ascend (map (entry_at ceiling) xs) → IsNonDecreasingBy (λ row. ceiling - row.depth) xs
 keys_rise ceiling [] ascend i j d le lt = absurd (omega arith)
 keys_rise ceiling (x ∷ xs) ascend zero zero d le lt = omega arith
 keys_rise ceiling (x ∷ xs) ascend zero (suc j) d le lt =
@@ -22,26 +22,26 @@ keys_rise ceiling (x ∷ xs) ascend zero (suc j) d le lt =
 keys_rise ceiling (x ∷ xs) ascend (suc i) zero d le lt = absurd (omega arith)
 keys_rise ceiling (x ∷ xs) ascend (suc i) (suc j) d le lt = keys_rise ceiling xs ascend.1 i j d (omega arith) (omega arith)
 
-pub keys_parted : (ceiling key : ℕ) (xs : List Row) → Ascend (map (entry_at ceiling) xs) → IsPartitionedBy (λ row. ltb (ceiling - row.depth) key) xs
+pub keys_parted : (ceiling key : ℕ) (xs : List BlockRow) → Ascend (map (entry_at ceiling) xs) → IsPartitionedBy (λ row. ltb (ceiling - row.depth) key) xs
 keys_parted ceiling key xs ascend = IsPartitionedBy-ltb (λ row. ceiling - row.depth) xs key (keys_rise ceiling xs ascend)
 
-pub keys_below : (ceiling key : ℕ) (xs : List Row) (i : ℕ) → IsPartitionPoint (λ row. ltb (ceiling - row.depth) key ≡ true) (λ row. ltb (ceiling - row.depth) key ≡ false) xs i → AllByRecursion (λ row. ceiling - row.depth < key) (take i xs)
+pub keys_below : (ceiling key : ℕ) (xs : List BlockRow) (i : ℕ) → IsPartitionPoint (λ row. ltb (ceiling - row.depth) key ≡ true) (λ row. ltb (ceiling - row.depth) key ≡ false) xs i → AllByRecursion (λ row. ceiling - row.depth < key) (take i xs)
 keys_below ceiling key xs i h = every_weaker (λ row. ltb (ceiling - row.depth) key ≡ true) (λ row. ceiling - row.depth < key) (take i xs) (λ row e. ltb-true (ceiling - row.depth) key e) (front_part (λ row. ltb (ceiling - row.depth) key) xs i h)
 
-pub keys_from : (ceiling key : ℕ) (xs : List Row) (i : ℕ) → IsPartitionPoint (λ row. ltb (ceiling - row.depth) key ≡ true) (λ row. ltb (ceiling - row.depth) key ≡ false) xs i → AllByRecursion (λ row. key ≤ ceiling - row.depth) (drop i xs)
+pub keys_from : (ceiling key : ℕ) (xs : List BlockRow) (i : ℕ) → IsPartitionPoint (λ row. ltb (ceiling - row.depth) key ≡ true) (λ row. ltb (ceiling - row.depth) key ≡ false) xs i → AllByRecursion (λ row. key ≤ ceiling - row.depth) (drop i xs)
 keys_from ceiling key xs i h = every_weaker (λ row. ltb (ceiling - row.depth) key ≡ false) (λ row. key ≤ ceiling - row.depth) (drop i xs) (λ row e. ltb-false (ceiling - row.depth) key e) (back_part (λ row. ltb (ceiling - row.depth) key) xs i h)
 
 -- the rows in two parts
-pub parts : (ceiling : ℕ) (xs : List Row) (i : ℕ) → map (entry_at ceiling) xs ≡ map (entry_at ceiling) (take i xs) ++ map (entry_at ceiling) (drop i xs)
+pub parts : (ceiling : ℕ) (xs : List BlockRow) (i : ℕ) → map (entry_at ceiling) xs ≡ map (entry_at ceiling) (take i xs) ++ map (entry_at ceiling) (drop i xs)
 parts ceiling xs i = ap (map (entry_at ceiling)) (sym (take-append-drop i xs)) ∙ map-append (entry_at ceiling) (take i xs) (drop i xs)
 
-pub handle_past : (ceiling key : ℕ) (xs : List Row) (i : ℕ) → AllByRecursion (λ row. ceiling - row.depth < key) (take i xs) → handle_under key (map (entry_at ceiling) xs) ≡ handle_under key (map (entry_at ceiling) (drop i xs))
+pub handle_past : (ceiling key : ℕ) (xs : List BlockRow) (i : ℕ) → AllByRecursion (λ row. ceiling - row.depth < key) (take i xs) → handle_under key (map (entry_at ceiling) xs) ≡ handle_under key (map (entry_at ceiling) (drop i xs))
 handle_past ceiling key xs i h =
     ap (handle_under key) (parts ceiling xs i)
     ∙ handle_under-append key (map (entry_at ceiling) (take i xs)) (map (entry_at ceiling) (drop i xs))
     ∙ ap (λ handle. option_or handle (handle_under key (map (entry_at ceiling) (drop i xs)))) (handle_under-below key (map (entry_at ceiling) (take i xs)) (every-map (λ x. x.key < key) (entry_at ceiling) (take i xs) h))
 
-pub handle_none : (ceiling key : ℕ) (xs : List Row) (i : ℕ) → AllByRecursion (λ row. ceiling - row.depth < key) (take i xs) → length xs ≤ i → handle_under key (map (entry_at ceiling) xs) ≡ None
+pub handle_none : (ceiling key : ℕ) (xs : List BlockRow) (i : ℕ) → AllByRecursion (λ row. ceiling - row.depth < key) (take i xs) → length xs ≤ i → handle_under key (map (entry_at ceiling) xs) ≡ None
 handle_none ceiling key xs i h end =
     handle_under-below key (map (entry_at ceiling) xs) (every-map (λ x. x.key < key) (entry_at ceiling) xs (subst (AllByRecursion (λ row. ceiling - row.depth < key)) (take_all i xs end) h))
 
@@ -50,13 +50,13 @@ dropped [] i x lt is = absurd (omega arith)
 dropped (y ∷ xs) zero x lt is = ap (λ z. z ∷ xs) (sym is)
 dropped (y ∷ xs) (suc i) x lt is = dropped xs i x (omega arith) is
 
-pub handle_here : (ceiling key : ℕ) (xs : List Row) (i : ℕ) (row : Row) → i < length xs → row ≡ get_or xs i row → AllByRecursion (λ row. ceiling - row.depth < key) (take i xs) → ceiling - row.depth ≡ key → handle_under key (map (entry_at ceiling) xs) ≡ Some row.handle
+pub handle_here : (ceiling key : ℕ) (xs : List BlockRow) (i : ℕ) (row : BlockRow) → i < length xs → row ≡ get_or xs i row → AllByRecursion (λ row. ceiling - row.depth < key) (take i xs) → ceiling - row.depth ≡ key → handle_under key (map (entry_at ceiling) xs) ≡ Some row.handle
 handle_here ceiling key xs i row lt is h same =
     handle_past ceiling key xs i h
     ∙ ap (λ rs. handle_under key (map (entry_at ceiling) rs)) (dropped xs i row lt is)
     ∙ ap (λ b. cond b (Some row.handle) (handle_under key (map (entry_at ceiling) (drop (suc i) xs)))) (eq-eqb (ceiling - row.depth) key same)
 
-pub handle_not_here : (ceiling key : ℕ) (xs : List Row) (i : ℕ) (row : Row) → Ascend (map (entry_at ceiling) xs) → i < length xs → row ≡ get_or xs i row → AllByRecursion (λ row. ceiling - row.depth < key) (take i xs) → key ≤ ceiling - row.depth → ceiling - row.depth ≢ key → handle_under key (map (entry_at ceiling) xs) ≡ None
+pub handle_not_here : (ceiling key : ℕ) (xs : List BlockRow) (i : ℕ) (row : BlockRow) → Ascend (map (entry_at ceiling) xs) → i < length xs → row ≡ get_or xs i row → AllByRecursion (λ row. ceiling - row.depth < key) (take i xs) → key ≤ ceiling - row.depth → ceiling - row.depth ≢ key → handle_under key (map (entry_at ceiling) xs) ≡ None
 handle_not_here ceiling key xs i row ascend lt is h le other =
     handle_past ceiling key xs i h
     ∙ ap (λ rs. handle_under key (map (entry_at ceiling) rs)) (dropped xs i row lt is)
@@ -69,38 +69,38 @@ handle_not_here ceiling key xs i row ascend lt is h le other =
     tail = subst (λ rs. Ascend (map (entry_at ceiling) rs)) (dropped xs i row lt is) (ascend_back (map (entry_at ceiling) (take i xs)) (map (entry_at ceiling) (drop i xs)) (subst Ascend (parts ceiling xs i) ascend))
 
 -- rows above a bound are in blocks that begin above it
-pub firsts_above : (bound : ℕ) (blocks : List Block) → AllByRecursion IsBlock blocks → AllByRecursion (λ x. bound < x.key) (rows blocks) → AllByRecursion (λ block. bound < block.first) blocks
+pub firsts_above : (bound : ℕ) (blocks : List RowBlock) → AllByRecursion IsBlock blocks → AllByRecursion (λ x. bound < x.key) (rows blocks) → AllByRecursion (λ block. bound < block.first) blocks
 firsts_above bound [] sound h = tt
 firsts_above bound (block ∷ blocks) sound h =
     (begin_has (λ key. bound < key) block.first (rows_of block) sound.0.begun (every_front (λ x. bound < x.key) (rows_of block) (rows blocks) h), firsts_above bound blocks sound.1 (every_back (λ x. bound < x.key) (rows_of block) (rows blocks) h))
 
 -- blocks that begin above a bound have their rows above it
-pub rows_above : (bound : ℕ) (blocks : List Block) → AllByRecursion IsBlock blocks → Ascend (rows blocks) → AllByRecursion (λ block. bound < block.first) blocks → AllByRecursion (λ x. bound < x.key) (rows blocks)
+pub rows_above : (bound : ℕ) (blocks : List RowBlock) → AllByRecursion IsBlock blocks → Ascend (rows blocks) → AllByRecursion (λ block. bound < block.first) blocks → AllByRecursion (λ x. bound < x.key) (rows blocks)
 rows_above bound [] sound ascend h = tt
 rows_above bound (block ∷ blocks) sound ascend h =
     every-append (λ x. bound < x.key) (rows_of block) (rows blocks) (every_weaker (λ x. block.first ≤ x.key) (λ x. bound < x.key) (rows_of block) (λ x le. omega (arith, h.0)) (from_begin block.first (rows_of block) sound.0.begun (ascend_front (rows_of block) (rows blocks) ascend))) (rows_above bound blocks sound.1 (ascend_back (rows_of block) (rows blocks) ascend) h.1)
 
-pub later_firsts : (block : Block) (blocks : List Block) → AllByRecursion IsBlock (block ∷ blocks) → Ascend (rows (block ∷ blocks)) → AllByRecursion (λ other. block.first < other.first) blocks
+pub later_firsts : (block : RowBlock) (blocks : List RowBlock) → AllByRecursion IsBlock (block ∷ blocks) → Ascend (rows (block ∷ blocks)) → AllByRecursion (λ other. block.first < other.first) blocks
 later_firsts block blocks sound ascend = firsts_above block.first blocks sound.1 (begin_below block.first (rows_of block) (rows blocks) sound.0.begun ascend)
 
-pub firsts_rise : (blocks : List Block) → AllByRecursion IsBlock blocks → Ascend (rows blocks) → IsNonDecreasingBy (λ block. block.first) blocks
+pub firsts_rise : (blocks : List RowBlock) → AllByRecursion IsBlock blocks → Ascend (rows blocks) → IsNonDecreasingBy (λ block. block.first) blocks
 firsts_rise [] sound ascend i j d le lt = absurd (omega arith)
 firsts_rise (block ∷ blocks) sound ascend zero zero d le lt = omega arith
 firsts_rise (block ∷ blocks) sound ascend zero (suc j) d le lt = lt_le block.first (get_or blocks j d).first (every_at (λ other. block.first < other.first) blocks j d (omega arith) (later_firsts block blocks sound ascend))
 firsts_rise (block ∷ blocks) sound ascend (suc i) zero d le lt = absurd (omega arith)
 firsts_rise (block ∷ blocks) sound ascend (suc i) (suc j) d le lt = firsts_rise blocks sound.1 (ascend_back (rows_of block) (rows blocks) ascend) i j d (omega arith) (omega arith)
 
-pub firsts_parted : (key : ℕ) (blocks : List Block) → AllByRecursion IsBlock blocks → Ascend (rows blocks) → IsPartitionedBy (λ block. leb block.first key) blocks
+pub firsts_parted : (key : ℕ) (blocks : List RowBlock) → AllByRecursion IsBlock blocks → Ascend (rows blocks) → IsPartitionedBy (λ block. leb block.first key) blocks
 firsts_parted key blocks sound ascend = IsPartitionedBy-leb (λ block. block.first) blocks key (firsts_rise blocks sound ascend)
 
-pub begun_part : (key : ℕ) (blocks : List Block) (i : ℕ) → IsPartitionPoint (λ block. leb block.first key ≡ true) (λ block. leb block.first key ≡ false) blocks i → AllByRecursion (λ block. block.first ≤ key) (take i blocks)
+pub begun_part : (key : ℕ) (blocks : List RowBlock) (i : ℕ) → IsPartitionPoint (λ block. leb block.first key ≡ true) (λ block. leb block.first key ≡ false) blocks i → AllByRecursion (λ block. block.first ≤ key) (take i blocks)
 begun_part key blocks i h = every_weaker (λ block. leb block.first key ≡ true) (λ block. block.first ≤ key) (take i blocks) (λ block e. leb-true block.first key e) (front_part (λ block. leb block.first key) blocks i h)
 
-pub not_begun_part : (key : ℕ) (blocks : List Block) (i : ℕ) → IsPartitionPoint (λ block. leb block.first key ≡ true) (λ block. leb block.first key ≡ false) blocks i → AllByRecursion (λ block. key < block.first) (drop i blocks)
+pub not_begun_part : (key : ℕ) (blocks : List RowBlock) (i : ℕ) → IsPartitionPoint (λ block. leb block.first key ≡ true) (λ block. leb block.first key ≡ false) blocks i → AllByRecursion (λ block. key < block.first) (drop i blocks)
 not_begun_part key blocks i h = every_weaker (λ block. leb block.first key ≡ false) (λ block. key < block.first) (drop i blocks) (λ block e. leb-false block.first key e) (back_part (λ block. leb block.first key) blocks i h)
 
 -- the rows before a block are below it
-pub rows_before : (front : List Block) (block : Block) (back : List Block) → IsBlock block → Ascend (rows (front ++ block ∷ back)) → AllByRecursion (λ x. x.key < block.first) (rows front)
+pub rows_before : (front : List RowBlock) (block : RowBlock) (back : List RowBlock) → IsBlock block → Ascend (rows (front ++ block ∷ back)) → AllByRecursion (λ x. x.key < block.first) (rows front)
 rows_before front block back is ascend = below_begin block.first (rows front) (rows_of block) (rows back) is.begun (subst Ascend (flat_map-append rows_of front (block ∷ back)) ascend)
 
 or_none : (handle : Option ℕ) → option_or handle None ≡ handle
@@ -108,7 +108,7 @@ or_none None = refl
 or_none (Some handle) = refl
 
 -- the handle under a key is in the last block that begins at it or before it
-found_in : (key : ℕ) (front : List Block) (block : Block) (back : List Block) → AllByRecursion IsBlock (front ++ block ∷ back) → Ascend (rows (front ++ block ∷ back)) → block.first ≤ key → AllByRecursion (λ other. key < other.first) back → handle_under key (rows (front ++ block ∷ back)) ≡ handle_under key (rows_of block)
+found_in : (key : ℕ) (front : List RowBlock) (block : RowBlock) (back : List RowBlock) → AllByRecursion IsBlock (front ++ block ∷ back) → Ascend (rows (front ++ block ∷ back)) → block.first ≤ key → AllByRecursion (λ other. key < other.first) back → handle_under key (rows (front ++ block ∷ back)) ≡ handle_under key (rows_of block)
 found_in key front block back sound ascend le above =
     ap (handle_under key) (flat_map-append rows_of front (block ∷ back))
     ∙ handle_under-append key (rows front) (rows_of block ++ rows back)
@@ -123,10 +123,10 @@ found_in key front block back sound ascend le above =
     late : Ascend (rows_of block ++ rows back)
     late = ascend_back (rows front) (rows_of block ++ rows back) (subst Ascend (flat_map-append rows_of front (block ∷ back)) ascend)
 
-pub found_nowhere : (key : ℕ) (blocks : List Block) → AllByRecursion IsBlock blocks → Ascend (rows blocks) → AllByRecursion (λ other. key < other.first) blocks → handle_under key (rows blocks) ≡ None
+pub found_nowhere : (key : ℕ) (blocks : List RowBlock) → AllByRecursion IsBlock blocks → Ascend (rows blocks) → AllByRecursion (λ other. key < other.first) blocks → handle_under key (rows blocks) ≡ None
 found_nowhere key blocks sound ascend above = handle_under-above key (rows blocks) (rows_above key blocks sound ascend above)
 
-pub found_at : (key : ℕ) (blocks : List Block) (next : ℕ) (block : Block) → next ≢ 0 → next ≤ length blocks → block ≡ get_or blocks (next - 1) block → AllByRecursion IsBlock blocks → Ascend (rows blocks) → AllByRecursion (λ other. other.first ≤ key) (take next blocks) → AllByRecursion (λ other. key < other.first) (drop next blocks) → handle_under key (rows blocks) ≡ handle_under key (rows_of block)
+pub found_at : (key : ℕ) (blocks : List RowBlock) (next : ℕ) (block : RowBlock) → next ≢ 0 → next ≤ length blocks → block ≡ get_or blocks (next - 1) block → AllByRecursion IsBlock blocks → Ascend (rows blocks) → AllByRecursion (λ other. other.first ≤ key) (take next blocks) → AllByRecursion (λ other. key < other.first) (drop next blocks) → handle_under key (rows blocks) ≡ handle_under key (rows_of block)
 found_at key blocks next block some le is sound ascend begun above =
     ap (λ bs. handle_under key (rows bs)) whole
     ∙ found_in key (take (next - 1) blocks) block (drop (suc (next - 1)) blocks) (subst (AllByRecursion IsBlock) whole sound) (subst (λ bs. Ascend (rows bs)) whole ascend) (last_taken (λ other. other.first ≤ key) blocks next block some le is begun) (subst (λ n. AllByRecursion (λ other. key < other.first) (drop n blocks)) same above)
@@ -138,10 +138,10 @@ found_at key blocks next block some le is sound ascend begun above =
     same = omega arith
 
 -- the rows of a block of a list that ascends
-pub own_ascend : (blocks : List Block) (i : ℕ) (block : Block) → i < length blocks → block ≡ get_or blocks i block → Ascend (rows blocks) → Ascend (rows_of block)
+pub own_ascend : (blocks : List RowBlock) (i : ℕ) (block : RowBlock) → i < length blocks → block ≡ get_or blocks i block → Ascend (rows blocks) → Ascend (rows_of block)
 own_ascend [] i block lt is ascend = absurd (omega arith)
 own_ascend (other ∷ blocks) zero block lt is ascend = subst (λ b. Ascend (rows_of b)) (sym is) (ascend_front (rows_of other) (rows blocks) ascend)
 own_ascend (other ∷ blocks) (suc i) block lt is ascend = own_ascend blocks i block (omega arith) is (ascend_back (rows_of other) (rows blocks) ascend)
 
-pub own_block : (P : Block → Type 0) (blocks : List Block) (i : ℕ) (block : Block) → i < length blocks → block ≡ get_or blocks i block → AllByRecursion P blocks → P block
+pub own_block : (P : RowBlock → Type 0) (blocks : List RowBlock) (i : ℕ) (block : RowBlock) → i < length blocks → block ≡ get_or blocks i block → AllByRecursion P blocks → P block
 own_block P blocks i block lt is h = subst P (sym is) (every_at P blocks i block lt h)

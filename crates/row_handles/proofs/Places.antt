@@ -3,11 +3,11 @@ use Rattle.std.proofs.Common.{◌≡◌, ◌≢◌, refl, ap, sym, ◌∙◌, su
 use Rattle.std.{specs.List.AllByRecursion, proofs.lemmas.Bool.{ne_eqb, eq-eqb, cases_eq}, proofs.lemmas.Option.same_Some}
 use Rattle.key_lists.{proofs.Every.{every_weaker, every-append, every-map, every_both}, proofs.Parts.every_back}
 use Rattle.slab.specs.Slab.{Slab, get, Updates}
-use Rattle.row_handles.{specs.declared.block.Block.Block, specs.declared.block.Row.Row, specs.declared.index.Place.Place, specs.Entries.{Entry, handles_of, key_with, Ascend, AreDistinct}, specs.Blocks.{IsPlaced, entry_at, place_in, rows_of, rows, number_of}, proofs.Lists.none_some, proofs.EntryLists.none_with}
+use Rattle.row_handles.{specs.declared.block.RowBlock.RowBlock, specs.declared.block.BlockRow.BlockRow, specs.declared.index.Location.Location, specs.Entries.{Entry, handles_of, key_with, Ascend, AreDistinct}, specs.Blocks.{IsPlaced, entry_at, place_in, rows_of, rows, number_of}, proofs.Lists.none_some, proofs.EntryLists.none_with}
 
 -- the places lead from the handle to the key
-pub record IsAt (ceilings : Slab ℕ) (places : Slab Place) (handle key : ℕ) : Type 0 where
-  pub place : Place
+pub record IsAt (ceilings : Slab ℕ) (places : Slab Location) (handle key : ℕ) : Type 0 where
+  pub place : Location
   pub placed : get places handle ≡ Some place
   pub ceiling : ℕ
   pub held : get ceilings place.block ≡ Some ceiling
@@ -17,12 +17,12 @@ pub record IsAt (ceilings : Slab ℕ) (places : Slab Place) (handle key : ℕ) :
 abbrev pub Keeps : {X : Type 0} → Slab X → Slab X → Type 0
 Keeps {X} old new = (key : ℕ) (x : X) → get old key ≡ Some x → get new key ≡ Some x
 
-module _ (ceilings : Slab ℕ) (places : Slab Place) where
-  pub located_rows : (number ceiling : ℕ) (xs : List Row) → get ceilings number ≡ Some ceiling → AllByRecursion (λ row. get places row.handle ≡ Some (place_in number row.depth)) xs → AllByRecursion (λ x. IsAt ceilings places x.handle x.key) (map (entry_at ceiling) xs)
+module _ (ceilings : Slab ℕ) (places : Slab Location) where
+  pub located_rows : (number ceiling : ℕ) (xs : List BlockRow) → get ceilings number ≡ Some ceiling → AllByRecursion (λ row. get places row.handle ≡ Some (place_in number row.depth)) xs → AllByRecursion (λ x. IsAt ceilings places x.handle x.key) (map (entry_at ceiling) xs)
   located_rows number ceiling [] held h = tt
   located_rows number ceiling (x ∷ xs) held h = (record { place = place_in number x.depth; placed = h.0; ceiling = ceiling; held = held; is = refl }, located_rows number ceiling xs held h.1)
 
-  pub located : (blocks : List Block) → AllByRecursion (IsPlaced ceilings places) blocks → AllByRecursion (λ x. IsAt ceilings places x.handle x.key) (rows blocks)
+  pub located : (blocks : List RowBlock) → AllByRecursion (IsPlaced ceilings places) blocks → AllByRecursion (λ x. IsAt ceilings places x.handle x.key) (rows blocks)
   located [] h = tt
   located (block ∷ blocks) h = every-append (λ x. IsAt ceilings places x.handle x.key) (rows_of block) (rows blocks) (located_rows block.number block.ceiling block.rows.items h.0.ceiling h.0.rows) (located blocks h.1)
 
@@ -77,7 +77,7 @@ module _ (ceilings : Slab ℕ) (places : Slab Place) where
 pub keeps_fresh : {X : Type 0} (old new : Slab X) (key : ℕ) (slot : Option X) → Updates old new key slot → get old key ≡ None → Keeps old new
 keeps_fresh old new key slot updates vacant other x there = updates.others other (λ e. none_some x (sym vacant ∙ ap (get old) (sym e) ∙ there)) ∙ there
 
-pub placed_kept : (ceilings others : Slab ℕ) (places more : Slab Place) (blocks : List Block) → Keeps ceilings others → Keeps places more → AllByRecursion (IsPlaced ceilings places) blocks → AllByRecursion (IsPlaced others more) blocks
+pub placed_kept : (ceilings others : Slab ℕ) (places more : Slab Location) (blocks : List RowBlock) → Keeps ceilings others → Keeps places more → AllByRecursion (IsPlaced ceilings places) blocks → AllByRecursion (IsPlaced others more) blocks
 placed_kept ceilings others places more blocks keeps stay =
     every_weaker (IsPlaced ceilings places) (IsPlaced others more) blocks (λ block is. record {
       ceiling = keeps block.number block.ceiling is.ceiling;
@@ -85,6 +85,6 @@ placed_kept ceilings others places more blocks keeps stay =
     })
 
 -- a number that no block has
-pub fresh_number : (ceilings : Slab ℕ) (places : Slab Place) (number : ℕ) (blocks : List Block) → get ceilings number ≡ None → AllByRecursion (IsPlaced ceilings places) blocks → AllByRecursion (λ n. n ≢ number) (map number_of blocks)
+pub fresh_number : (ceilings : Slab ℕ) (places : Slab Location) (number : ℕ) (blocks : List RowBlock) → get ceilings number ≡ None → AllByRecursion (IsPlaced ceilings places) blocks → AllByRecursion (λ n. n ≢ number) (map number_of blocks)
 fresh_number ceilings places number blocks vacant h =
     every-map (λ n. n ≢ number) number_of blocks (every_weaker (IsPlaced ceilings places) (λ block. block.number ≢ number) blocks (λ block is e. none_some block.ceiling (sym vacant ∙ ap (get ceilings) (sym e) ∙ is.ceiling)) h)

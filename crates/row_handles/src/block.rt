@@ -10,12 +10,12 @@ const BLOCK_LEN: usize = 128;
 
 /// A row, by how far its key is below the ceiling of its block.
 #[derive(Clone, Copy)]
-pub(crate) struct Row {
+pub(crate) struct BlockRow {
     pub(crate) depth: u32,
     pub(crate) handle: u32,
 }
 
-impl Row {
+impl BlockRow {
     /// The key of the row in a block with this ceiling.
     pub(crate) fn key(&self, ceiling: u64) -> u64
         ensures { result ≡ ceiling - self.now.depth }
@@ -40,17 +40,17 @@ pub(crate) struct Span {
 
 /// Rows that follow one another by rising key. There is one at least.
 #[derive(Drop)]
-pub(crate) struct Block {
+pub(crate) struct RowBlock {
     /// The number by which the places of its rows name the block.
     pub(crate) number: u32,
     /// The key of the first row.
     pub(crate) first: u64,
     /// The key of a row is the ceiling less the row's depth. It may be no key of a row, and no key at all.
     pub(crate) ceiling: u64,
-    pub(crate) rows: Vec<Row>,
+    pub(crate) rows: Vec<BlockRow>,
 }
 
-impl Block {
+impl RowBlock {
     ghost use Rattle.row_handles.specs.Blocks.{AreRowsUnder, rows_of};
 
     /// How many of its rows have smaller keys. Where the last one has, no other is looked at.
@@ -112,7 +112,7 @@ impl Block {
     }
 
     /// Its rows as they are below another ceiling, or None where a key is above it or too far below.
-    pub(crate) fn rows_under(&self, ceiling: u64) -> Result<Option<Vec<Row>>, AllocError>
+    pub(crate) fn rows_under(&self, ceiling: u64) -> Result<Option<Vec<BlockRow>>, AllocError>
         ensures { IfOk result (λ found. IfSome found (λ rows. AreRowsUnder ceiling rows.items (rows_of self.now))) }
     {
         let mut rows = Vec::with_capacity(*self.rows.allocator(), self.rows.len())?;
@@ -120,7 +120,7 @@ impl Block {
             let Some(depth) = depth_below(ceiling, row.key(self.ceiling)) else {
                 return Ok(None);
             };
-            rows.push(Row {
+            rows.push(BlockRow {
                 depth,
                 handle: row.handle,
             })?;

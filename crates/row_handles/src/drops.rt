@@ -6,13 +6,13 @@ ghost use Rattle.row_handles.specs.Blocks.{IsIndex, rows};
 ghost use Rattle.row_handles.specs.Moves.{has_handle};
 ghost use Rattle.row_handles.specs.Drops.{AreOutside, left_by, outside};
 
-use crate::block::Row;
-use crate::index::{Index, Place, begun_by};
+use crate::block::BlockRow;
+use crate::index::{HandleIndex, Location, begun_by};
 use row_set::Range;
 use slab::Slab;
 
 /// Gives the handles of the rows back.
-fn vacate(places: &mut Slab<Place>, rows: &[Row])
+fn vacate(places: &mut Slab<Location>, rows: &[BlockRow])
     ensures { (handle : ℕ) → has_handle handle rows.now ≡ false → get places.new handle ≡ get places.old handle }
 {
     for row in rows {
@@ -21,7 +21,7 @@ fn vacate(places: &mut Slab<Place>, rows: &[Row])
 }
 
 /// Takes out the rows from `from` up to `to`.
-fn take_out(rows: &mut Vec<Row>, from: usize, to: usize)
+fn take_out(rows: &mut Vec<BlockRow>, from: usize, to: usize)
     requires order { from ≤ to }
     requires within { to ≤ vec_len rows.old }
     ensures { rows.new.items ≡ take from rows.old.items ++ drop to rows.old.items }
@@ -31,7 +31,7 @@ fn take_out(rows: &mut Vec<Row>, from: usize, to: usize)
     rows.truncate(len - (to - from));
 }
 
-impl Index {
+impl HandleIndex {
     /// Leaves out the rows of the block at an index under the keys from first to last, and the block where none is left;
     /// returns the index of the next block.
     fn leave_at(&mut self, index: usize, first: u64, last: u64) -> usize

@@ -3,7 +3,7 @@ ghost use Rattle.std.specs.Prelude.{◌≡◌, ◌<◌, ◌^◌, ◌∷◌, [], 
 ghost use Rattle.tick_model.specs.Rules.{shift_fault};
 ghost use Rattle.row_handles.specs.Entries.{AreHandled, handle_under, key_with, keys_of, left_rows, moved_rows, with_row};
 
-use crate::index::Index;
+use crate::index::HandleIndex;
 use row_set::RowSet;
 use shift_data::ShiftData;
 use std::alloc::{AllocError, Global};
@@ -16,7 +16,7 @@ pub type Handle = usize;
 /// The rows of a table by their keys, each with a handle. A row keeps its handle while its key moves, so that lists of
 /// handles stand where lists of keys would have to be written anew; and the rows of two handles keep their order.
 pub struct Handles {
-    index: Index,
+    index: HandleIndex,
 }
 
 impl Drop for Handles {
@@ -43,7 +43,7 @@ impl Handles {
         ensures { result ≡ [] }
     {
         Handles {
-            index: Index::new(alloc),
+            index: HandleIndex::new(alloc),
         }
     }
 

@@ -5,7 +5,7 @@ ghost use Rattle.row_handles.specs.Entries.{Ascend, handle_under, key_with, with
 ghost use Rattle.row_handles.specs.Blocks.{AtBlock, IsBlock, IsIndex, rows};
 ghost use Rattle.row_handles.specs.Moves.{IsBeside};
 
-use crate::block::{Block, Row};
+use crate::block::{BlockRow, RowBlock};
 use slab::Slab;
 use std::alloc::{AllocError, Global};
 
@@ -14,24 +14,24 @@ const MIDDLE: u32 = 1 << 31;
 
 /// Where the row with a handle stands: the number of its block and its depth there.
 #[derive(Clone, Copy)]
-pub(crate) struct Place {
+pub(crate) struct Location {
     pub(crate) block: u32,
     pub(crate) depth: u32,
 }
 
 /// The rows of a table.
 #[derive(Drop)]
-pub(crate) struct Index {
+pub(crate) struct HandleIndex {
     /// The blocks, by rising keys.
-    pub(crate) blocks: Vec<Block>,
+    pub(crate) blocks: Vec<RowBlock>,
     /// The ceilings of the blocks, by their numbers.
     pub(crate) ceilings: Slab<u64>,
     /// The places of the rows, by their handles.
-    pub(crate) places: Slab<Place>,
+    pub(crate) places: Slab<Location>,
 }
 
 /// How many of the blocks begin at the key or before it. Where the last one does, no other is looked at.
-pub(crate) fn begun_by(blocks: &[Block], key: u64) -> usize
+pub(crate) fn begun_by(blocks: &[RowBlock], key: u64) -> usize
     requires sound { AllByRecursion IsBlock blocks.now }
     requires ascend { Ascend (rows blocks.now) }
     ensures within { result ≤ length blocks.now }
@@ -51,12 +51,12 @@ pub(crate) fn short(number: usize) -> Result<u32, AllocError>
     u32::try_from(number).ok().ok_or(AllocError)
 }
 
-impl Index {
+impl HandleIndex {
     /// An index of no rows.
-    pub(crate) fn new(alloc: Global) -> Index
+    pub(crate) fn new(alloc: Global) -> HandleIndex
         ensures blocks { result.blocks.items ≡ [] }
     {
-        Index {
+        HandleIndex {
             blocks: Vec::new(alloc),
             ceilings: Slab::new(alloc),
             places: Slab::new(alloc),
@@ -104,11 +104,11 @@ impl Index {
         let handle = short(self.places.vacant_key())?;
         let block = &mut self.blocks[index];
         let place = block.rows_below(key);
-        block.rows.insert(place, Row { depth, handle })?;
+        block.rows.insert(place, BlockRow { depth, handle })?;
         block.first = block.first.min(key);
         let number = block.number;
         Ok(
-            self.places.insert_reserved(Place {
+            self.places.insert_reserved(Location {
                 block: number,
                 depth,
             }),
@@ -133,11 +133,11 @@ impl Index {
         let handle = short(self.places.vacant_key())?;
         let ceiling = key + MIDDLE as u64;
         let mut rows = Vec::new(*self.blocks.allocator());
-        rows.push(Row {
+        rows.push(BlockRow {
             depth: MIDDLE,
             handle,
         })?;
-        let block = Block {
+        let block = RowBlock {
             number,
             first: key,
             ceiling,
@@ -146,7 +146,7 @@ impl Index {
         self.blocks.insert(next, block)?;
         let _ = self.ceilings.insert_reserved(ceiling);
         Ok(
-            self.places.insert_reserved(Place {
+            self.places.insert_reserved(Location {
                 block: number,
                 depth: MIDDLE,
             }),

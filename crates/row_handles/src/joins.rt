@@ -6,8 +6,8 @@ ghost use Rattle.row_handles.specs.Entries.{AreDistinct};
 ghost use Rattle.row_handles.specs.Blocks.{IsIndex, place_in, rows};
 ghost use Rattle.row_handles.specs.Moves.{handle_in, has_handle};
 
-use crate::block::Row;
-use crate::index::{Index, Place};
+use crate::block::BlockRow;
+use crate::index::{HandleIndex, Location};
 use slab::Slab;
 use std::alloc::AllocError;
 
@@ -15,21 +15,21 @@ use std::alloc::AllocError;
 const JOINED_LEN: usize = 64;
 
 /// Puts the rows into the block with this number.
-fn settle(places: &mut Slab<Place>, rows: &[Row], number: u32)
+fn settle(places: &mut Slab<Location>, rows: &[BlockRow], number: u32)
     requires there { AllByRecursion (λ row. ContainsKey places.old row.handle) rows.now }
     requires distinct { AreDistinct (map handle_in rows.now) }
     ensures settled { AllByRecursion (λ row. get places.new row.handle ≡ Some (place_in number row.depth)) rows.now }
     ensures others { (handle : ℕ) → has_handle handle rows.now ≡ false → get places.new handle ≡ get places.old handle }
 {
     for row in rows {
-        places[row.handle as usize] = Place {
+        places[row.handle as usize] = Location {
             block: number,
             depth: row.depth,
         };
     }
 }
 
-impl Index {
+impl HandleIndex {
     /// Makes one block of the block at an index and the next, where they have few rows and their keys are not too far apart.
     fn join(&mut self, index: usize) -> Result<(), AllocError>
         requires { IsIndex self.old }

@@ -7,15 +7,15 @@ ghost use Rattle.row_handles.specs.Entries.{AreDistinct, keys_of, moved_rows};
 ghost use Rattle.row_handles.specs.Blocks.{AtBlock, IsBlock, IsIndex, number_of, rows};
 ghost use Rattle.row_handles.specs.Moves.{AreRenamed, IsBesideRange, IsCut, IsMovable, IsSplit, moved_block};
 
-use crate::block::{Block, Row, Span};
-use crate::index::{Index, Place, begun_by, short};
+use crate::block::{BlockRow, RowBlock, Span};
+use crate::index::{HandleIndex, Location, begun_by, short};
 use shift_data::ShiftData;
 use slab::Slab;
 use std::alloc::AllocError;
 use tick_model::update::ShiftRange;
 
 /// Makes the rows those of the block with this number.
-fn rename(places: &mut Slab<Place>, rows: &[Row], number: u32)
+fn rename(places: &mut Slab<Location>, rows: &[BlockRow], number: u32)
     ensures { AreRenamed number rows.now places.old places.new }
 {
     for row in rows {
@@ -25,7 +25,7 @@ fn rename(places: &mut Slab<Place>, rows: &[Row], number: u32)
     }
 }
 
-impl Index {
+impl HandleIndex {
     /// Makes two blocks of one, the second from a row on.
     fn split(&mut self, index: usize, from: usize) -> Result<(), AllocError>
         requires sound { IsIndex self.old }
@@ -42,7 +42,7 @@ impl Index {
         let block = &self.blocks[index];
         let ceiling = block.ceiling;
         let rows = Vec::from_slice(alloc, &block.rows[from..])?;
-        let right = Block {
+        let right = RowBlock {
             number,
             first: rows[0].key(ceiling),
             ceiling,

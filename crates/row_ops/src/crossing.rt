@@ -13,18 +13,11 @@ ghost use Rattle.tick_table.specs.Exact.{IsExact, tick_of};
 use crate::testing::passing_keys;
 use formula::passes;
 use row_set::RowSet;
-use shown_rows::{KeyPairs, keys_among, put_last_if};
+use shown_rows::{Crossing, KeyPairs, keys_among, put_last_if};
 use std::alloc::{AllocError, Global};
 use std::sync::ledger::Ledger;
 use tick_model::plan::Pred;
 use tick_table::{RowReader, Steps, TickTable, Version};
-
-/// The rows that pass no more, by their old keys, and those that pass and did not before, by their new ones.
-#[derive(Drop)]
-pub(crate) struct Crossing {
-    pub leaving: RowSet,
-    pub coming: RowSet,
-}
 
 /// The rows that cross a test in a step, where `shown` has the keys of those that passed before it. It reads the added and
 /// the modified rows, each once; where it is refused, no more than these.

@@ -2,7 +2,7 @@
 use Rattle.std.proofs.Common.{◌≡◌, refl, ap, ap₂, sym, ◌∙◌, subst, Bool, true, false, cond, not, ◌||◌, ℕ, ◌+◌, ◌-◌, ◌^◌, ◌<◌, ◌≤◌, arith, List, [], ◌∷◌, length, take, drop, get_or, slice_get, take-append-drop, ◌⊎◌, Some, inl, inr}
 use Rattle.std.{specs.List.{AllByRecursion, list_any}, proofs.lemmas.Bool.{cases_Bool, cases_lt, or_left, or_from}, proofs.lemmas.List.take_rest, proofs.lemmas.List.Folds.list_any-append, proofs.lemmas.Option.same_Some}
 use Rattle.key_lists.{specs.Keys.{is_among, IsRising}, proofs.Every.{every_weaker, and_swap}, proofs.Among.{among-filter, of_among}, proofs.Rising.{rising_same, rising_some}}
-use Rattle.row_set.{specs.declared.ranges.Range.Range, specs.declared.algebra.Choice.Choice, specs.declared.algebra.Choice.TheVariants.{Either, FirstAlone, Both}, specs.Ranges.{keys_from, keys_of, holds, AreApart}, specs.Sets.{IsKeySet, united}, specs.Choice.{takes, chosen, AreAhead}, proofs.Held.{among-in, among-keys, holds-true, holds_before, holds_after, none_before, none_after}, proofs.Apart.{apart-drop, each_above}, proofs.Counts.blank, proofs.Middles.span, proofs.United.{among-united, united_rises}}
+use Rattle.row_set.{specs.declared.ranges.Range.Range, specs.declared.algebra.SetOperation.SetOperation, specs.declared.algebra.SetOperation.TheVariants.{Either, FirstAlone, Both}, specs.Ranges.{keys_from, keys_of, holds, AreApart}, specs.Sets.{IsKeySet, united}, specs.Choice.{takes, chosen, AreAhead}, proofs.Held.{among-in, among-keys, holds-true, holds_before, holds_after, none_before, none_after}, proofs.Apart.{apart-drop, each_above}, proofs.Counts.blank, proofs.Middles.span, proofs.United.{among-united, united_rises}}
 
 -- the first range holds the keys up to its end, and none holds one before it
 pub stretch_held : (at key : ℕ) (ranges : List Range) (range : Range) → Some range ≡ slice_get ranges 0 → range.first ≤ at → at ≤ key → key < range.last + 1 → is_among key (keys_of ranges) ≡ true
@@ -44,23 +44,23 @@ first_ended end [] lt = tt
 first_ended end (range ∷ ranges) lt = (lt, tt)
 
 -- the keys that a choice takes
-pub among-chosen : (key : ℕ) (choice : Choice) (keys others : List ℕ) → is_among key (chosen choice keys others) ≡ takes choice (is_among key keys) (is_among key others)
+pub among-chosen : (key : ℕ) (choice : SetOperation) (keys others : List ℕ) → is_among key (chosen choice keys others) ≡ takes choice (is_among key keys) (is_among key others)
 among-chosen key Either keys others = among-united key keys others
 among-chosen key FirstAlone keys others = among-filter (λ key. not (is_among key others)) key keys ∙ and_swap (not (is_among key others)) (is_among key keys)
 among-chosen key Both keys others = among-filter (λ key. is_among key others) key keys ∙ and_swap (is_among key others) (is_among key keys)
 
-pub chosen_rises : (choice : Choice) (keys others : List ℕ) → IsRising keys → IsRising others → IsRising (chosen choice keys others)
+pub chosen_rises : (choice : SetOperation) (keys others : List ℕ) → IsRising keys → IsRising others → IsRising (chosen choice keys others)
 chosen_rises Either keys others h k = united_rises keys others k
 chosen_rises FirstAlone keys others h k = rising_some (λ key. not (is_among key others)) keys h
 chosen_rises Both keys others h k = rising_some (λ key. is_among key others) keys h
 
-takes_none : (choice : Choice) → takes choice false false ≡ false
+takes_none : (choice : SetOperation) → takes choice false false ≡ false
 takes_none Either = refl
 takes_none FirstAlone = refl
 takes_none Both = refl
 
 -- the keys below `at` are merged, and the ranges that have others are left
-pub record IsMerged (choice : Choice) (keys others : List ℕ) (at : ℕ) (first second : List Range) (kept : List ℕ) : Type 0 where
+pub record IsMerged (choice : SetOperation) (keys others : List ℕ) (at : ℕ) (first second : List Range) (kept : List ℕ) : Type 0 where
   pub first_ahead : AreAhead at first
   pub second_ahead : AreAhead at second
   pub first_same : (key : ℕ) → at ≤ key → is_among key (keys_of first) ≡ is_among key keys
@@ -78,7 +78,7 @@ among_not_from key first last (inl before) = among-in key (span first last) ∙ 
 among_not_from key first last (inr after) = among-in key (span first last) ∙ holds_after key (span first last) after
 
 -- a step from `at` to `end`, where all keys between are taken or none is
-pub merged_more : (choice : Choice) (keys others : List ℕ) (at end : ℕ) (first second first' second' : List Range) (kept kept' : List ℕ) (held held' : Bool) → IsMerged choice keys others at first second kept → at < end → end ≤ 2 ^ 62
+pub merged_more : (choice : SetOperation) (keys others : List ℕ) (at end : ℕ) (first second first' second' : List Range) (kept kept' : List ℕ) (held held' : Bool) → IsMerged choice keys others at first second kept → at < end → end ≤ 2 ^ 62
     → ((key : ℕ) → at ≤ key → key < end → takes choice (is_among key (keys_of first)) (is_among key (keys_of second)) ≡ takes choice held held')
     → AreAhead end first' → ((key : ℕ) → end ≤ key → is_among key (keys_of first') ≡ is_among key (keys_of first))
     → AreAhead end second' → ((key : ℕ) → end ≤ key → is_among key (keys_of second') ≡ is_among key (keys_of second))
@@ -121,7 +121,7 @@ none_large : (key : ℕ) (keys : List ℕ) → AllByRecursion (λ k. k < 2 ^ 62)
 none_large key keys small le = elim (cases_Bool (is_among key keys)) [ inl found ↦ absurd (omega (arith, of_among (λ k. k < 2 ^ 62) key keys small found, le)) | inr none ↦ none ]
 
 -- all keys are merged
-pub merged_all : (choice : Choice) (keys others : List ℕ) (at : ℕ) (first second : List Range) (kept : List ℕ) → IsKeySet keys → IsKeySet others → IsMerged choice keys others at first second kept → 2 ^ 62 ≤ at → kept ≡ chosen choice keys others
+pub merged_all : (choice : SetOperation) (keys others : List ℕ) (at : ℕ) (first second : List Range) (kept : List ℕ) → IsKeySet keys → IsKeySet others → IsMerged choice keys others at first second kept → 2 ^ 62 ≤ at → kept ≡ chosen choice keys others
 merged_all choice keys others at first second kept ks os h le =
     rising_same kept (chosen choice keys others) h.rising (chosen_rises choice keys others ks.rising os.rising)
     (λ key.

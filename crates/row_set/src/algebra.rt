@@ -19,7 +19,7 @@ pub(crate) struct Stretch {
 
 /// Which keys of two sets a third one takes.
 #[derive(Clone, Copy)]
-pub(crate) enum Choice {
+pub(crate) enum SetOperation {
     /// Those that are in either.
     Either,
     /// Those that are in the first and not in the second.
@@ -28,24 +28,24 @@ pub(crate) enum Choice {
     Both,
 }
 
-impl Choice {
+impl SetOperation {
     /// Whether it takes a key that is in the two sets or not.
     pub(crate) fn takes(self, in_first: bool, in_second: bool) -> bool
         ensures { result ≡ takes self in_first in_second }
     {
         match self {
-            Choice::Either => in_first || in_second,
-            Choice::FirstAlone => in_first && !in_second,
-            Choice::Both => in_first && in_second,
+            SetOperation::Either => in_first || in_second,
+            SetOperation::FirstAlone => in_first && !in_second,
+            SetOperation::Both => in_first && in_second,
         }
     }
 
     /// How many ranges to make room for at first, where the two sets have these many. There may be more in the end.
     pub(crate) fn room(self, first: usize, second: usize) -> usize {
         match self {
-            Choice::Either => first.saturating_add(second),
-            Choice::FirstAlone => first,
-            Choice::Both => first.min(second),
+            SetOperation::Either => first.saturating_add(second),
+            SetOperation::FirstAlone => first,
+            SetOperation::Both => first.min(second),
         }
     }
 
@@ -59,8 +59,8 @@ impl Choice {
             → takes self in_first in_second ≡ takes self here.held there.held }
     {
         match self {
-            Choice::FirstAlone | Choice::Both if !here.held => here.end,
-            Choice::Both if !there.held => there.end,
+            SetOperation::FirstAlone | SetOperation::Both if !here.held => here.end,
+            SetOperation::Both if !there.held => there.end,
             _ => here.end.min(there.end),
         }
     }

@@ -7,7 +7,7 @@ ghost use Rattle.row_set.specs.Choice.{chosen};
 ghost use Rattle.row_set.specs.Moves.{IsKey, moved_key, moved_keys};
 ghost use Rattle.row_set.specs.Sets.{IsKeySet, count_below, common, found, last_key, united};
 
-use crate::algebra::{Choice, rest_from, stretch_from};
+use crate::algebra::{SetOperation, rest_from, stretch_from};
 use crate::changes::{put_range, put_ranges, take_range, take_ranges};
 use crate::iter::Keys;
 use crate::ranges::{BLOCK, Range};
@@ -267,7 +267,7 @@ impl RowSet {
         if other.is_empty() {
             return self.copy();
         }
-        self.combined(other, Choice::Either)
+        self.combined(other, SetOperation::Either)
     }
 
     /// The keys of this set alone.
@@ -277,14 +277,14 @@ impl RowSet {
         if other.is_empty() {
             return self.copy();
         }
-        self.combined(other, Choice::FirstAlone)
+        self.combined(other, SetOperation::FirstAlone)
     }
 
     /// The keys of both sets.
     pub fn intersect(&self, other: &RowSet) -> Result<RowSet, AllocError>
         ensures { IfOk result (λ keys. keys ≡ common self.now other.now) }
     {
-        self.combined(other, Choice::Both)
+        self.combined(other, SetOperation::Both)
     }
 
     /// The keys at the positions from `first` on, `count` of them or as many as there are.
@@ -316,7 +316,7 @@ impl RowSet {
     }
 
     /// The keys that are in the sets as the choice has it.
-    fn combined(&self, other: &RowSet, choice: Choice) -> Result<RowSet, AllocError>
+    fn combined(&self, other: &RowSet, choice: SetOperation) -> Result<RowSet, AllocError>
         ensures { IfOk result (λ keys. keys ≡ chosen choice self.now other.now) }
     {
         let mut first = self.ranges();

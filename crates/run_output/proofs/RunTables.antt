@@ -4,7 +4,7 @@ use Rattle.std.{specs.Prelude.{flat_map, fold, nat_lt, Some}, specs.List.{AllByR
 use Rattle.key_lists.{specs.Keys.is_among, proofs.Among.among_below, proofs.Every.every_weaker, proofs.Ranges.range-append}
 use Rattle.tick_model.{specs.declared.feed.Run.Run, specs.declared.table.PlainTable.PlainTable, specs.Changes.{Change, change_of, changed, is_empty}, specs.Evaluation.table_at, specs.LawfulRuns.IsLawfulRun, specs.Plans.rises, specs.Spoiled.good, specs.States.{empty_at, state, tick}, specs.Updates.{Tick, between}}
 use Rattle.tick_laws.{specs.Reached.{IsReached, IsTickFrom, table_before}, proofs.EmptyUpdates.unchanged_by_empty, proofs.GoodSteps.good_reached, proofs.RunTicks.{lawful_ticks, reached_before}, proofs.ToldRows.change-carries}
-use Rattle.run_output.{specs.declared.entry.Entry.Entry, specs.declared.entry.Entry.TheVariants.Update, specs.Runs.{applied, copy_after, step_entries, told_update, update_entries, update_entry}, proofs.RunEntries.{printed_there, printed_rise}}
+use Rattle.run_output.{specs.declared.entry.OutputEntry.OutputEntry, specs.declared.entry.OutputEntry.TheVariants.Update, specs.Runs.{applied, copy_after, step_entries, told_update, update_entries, update_entry}, proofs.RunEntries.{printed_there, printed_rise}}
 
 pub fold-append : {A B : Type 0} (f : B → A → B) (a : B) (xs ys : List A) → fold f a (xs ++ ys) ≡ fold f (fold f a xs) ys
 fold-append f a [] ys = refl
@@ -106,7 +106,7 @@ module _ (run : Run) (h : IsLawfulRun run) (node : ℕ) (there : is_among node r
       steps_move 0 (step + 1) (λ s less. reached_before run s last (omega (arith, less, within)) (good_reached run last is)) ∙ ap (λ s. table_before run s node) next
 
 -- the updates up to a step stand first
-pub updates_before : (run : Run) (step last : ℕ) → step ≤ last → (later : List Entry) × (update_entries run last ≡ update_entries run step ++ later)
+pub updates_before : (run : Run) (step last : ℕ) → step ≤ last → (later : List OutputEntry) × (update_entries run last ≡ update_entries run step ++ later)
 updates_before run step last within =
     let count : last + 1 ≡ (step + 1) + (last - step) = omega (arith, within) in (
       flat_map (step_entries run) (range_with_len (0 + (step + 1)) (last - step)),

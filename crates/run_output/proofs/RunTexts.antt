@@ -3,7 +3,7 @@ use Rattle.std.proofs.Common.{◌≡◌, refl, ap, sym, ◌∙◌, true, false, 
 use Rattle.std.{specs.Prelude.flat_map, specs.List.range_with_len, proofs.lemmas.Grind.flat_map-append, proofs.lemmas.List.append-nil}
 use Rattle.tick_model.{specs.declared.feed.Run.Run, specs.declared.plan.Node.Node, specs.declared.plan.Published.Published, specs.Changes.{Change, change_of, is_empty}, specs.Evaluation.table_at, specs.States.{state, tick}, specs.Texts.{calls_records, callers_records, change_records, columns_at, name_at, node_records, published_node, records_text, record_text, snapshot_of, snapshot_records, snapshots_text, some_published, step_records, told_records, updates_text}}
 use Rattle.update_text.specs.declared.shown.Shown.{Shown}
-use Rattle.run_output.{specs.declared.entry.Entry.Entry, specs.declared.entry.Entry.TheVariants.Update, specs.Entries.{entry_text, output_text, shown_at}, specs.Runs.{callers_entries, calls_entries, shown_node, snapshot_entries, snapshot_entry, step_entries, tables_of, told_update, update_entries, update_entry, where_published}}
+use Rattle.run_output.{specs.declared.entry.OutputEntry.OutputEntry, specs.declared.entry.OutputEntry.TheVariants.Update, specs.Entries.{entry_text, output_text, shown_at}, specs.Runs.{callers_entries, calls_entries, shown_node, snapshot_entries, snapshot_entry, step_entries, tables_of, told_update, update_entries, update_entry, where_published}}
 
 -- a node as it is shown
 pub shown_is : (nodes : List Node) (node : ℕ) →
@@ -13,7 +13,7 @@ shown_is (first ∷ nodes) zero = refl
 shown_is (first ∷ nodes) (suc node) = shown_is nodes node
 
 -- records and entries that have one text, of each of some
-texts_same : {X : Type 0} (tables : List Shown) (texts : List (List ℕ)) (records_of : X → List (List (List ℕ))) (entries_of : X → List Entry) →
+texts_same : {X : Type 0} (tables : List Shown) (texts : List (List ℕ)) (records_of : X → List (List (List ℕ))) (entries_of : X → List OutputEntry) →
     ((x : X) → records_text (records_of x) ≡ output_text tables texts (entries_of x)) → (xs : List X) → records_text (flat_map records_of xs) ≡ output_text tables texts (flat_map entries_of xs)
 texts_same tables texts records_of entries_of same [] = refl
 texts_same tables texts records_of entries_of same (x ∷ xs) =
@@ -62,7 +62,7 @@ module _ (run : Run) where
       ∙ ap (λ (text : List ℕ). output_text tables run.texts (calls_entries run caller 0 steps) ++ text) (callers_told (caller + 1) others)
       ∙ sym (flat_map-append (entry_text tables run.texts) (calls_entries run caller 0 steps) (callers_entries run (caller + 1) others))
 
-  published_told : (published : List Published) (records : List (List (List ℕ))) (entries : List Entry) → records_text records ≡ output_text tables run.texts entries →
+  published_told : (published : List Published) (records : List (List (List ℕ))) (entries : List OutputEntry) → records_text records ≡ output_text tables run.texts entries →
       records_text (some_published published records) ≡ output_text tables run.texts (where_published published entries)
   published_told [] records entries same = refl
   published_told (first ∷ others) records entries same = same

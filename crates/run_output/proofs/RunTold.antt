@@ -5,7 +5,7 @@ use Rattle.key_lists.{proofs.Every.{every-append, every_both}, proofs.Parts.ever
 use Rattle.tick_laws.{specs.Fitting.FitsColumns, specs.Reached.IsReached, proofs.FittingNodes.{node_fits, node_printable}, proofs.GoodSteps.{good_reached, good_within}, proofs.ReachedTables.reached_tables, proofs.RunTicks.reached_before}
 use Rattle.tick_model.{specs.declared.feed.Run.Run, specs.declared.plan.ColumnSpec.ColumnSpec, specs.declared.plan.Node.Node, specs.declared.plan.Published.Published, specs.declared.table.PlainRow.PlainRow, specs.Changes.{Change, change_of, is_empty}, specs.Choices.{IsCalls, IsChoice}, specs.Evaluation.table_at, specs.LawfulRuns.IsLawfulRun, specs.Plans.publication_lawful, specs.Printable.IsPrintable, specs.Spoiled.good, specs.States.{state, tick}, specs.Tables.IsRow, specs.Texts.{columns_at, published_node}}
 use Rattle.update_text.{specs.declared.shown.Shown.Shown, specs.Reading.IsToldRow}
-use Rattle.run_output.{specs.declared.entry.Entry.Entry, specs.declared.entry.Entry.TheVariants.Update, specs.Entries.{IsEntry, shown_at}, specs.Runs.{callers_entries, calls_entries, shown_node, snapshot_entries, snapshot_entry, step_entries, tables_of, told_update, update_entries, update_entry, where_published}, proofs.RunEntries.{has_passed, printed_are}, proofs.RunTexts.shown_is}
+use Rattle.run_output.{specs.declared.entry.OutputEntry.OutputEntry, specs.declared.entry.OutputEntry.TheVariants.Update, specs.Entries.{IsEntry, shown_at}, specs.Runs.{callers_entries, calls_entries, shown_node, snapshot_entries, snapshot_entry, step_entries, tables_of, told_update, update_entries, update_entry, where_published}, proofs.RunEntries.{has_passed, printed_are}, proofs.RunTexts.shown_is}
 
 pub every_flat : {X Y : Type 0} (P : Y → Type 0) (Q : X → Type 0) (f : X → List Y) → ((x : X) → Q x → AllByRecursion P (f x)) → (xs : List X) → AllByRecursion Q xs → AllByRecursion P (flat_map f xs)
 every_flat P Q f each [] h = tt
@@ -25,7 +25,7 @@ module _ (run : Run) (h : IsLawfulRun run) where
   abbrev tables : List Shown
   tables = tables_of run
 
-  abbrev Told : Entry → Type 0
+  abbrev Told : OutputEntry → Type 0
   Told = IsEntry tables run.texts
 
   columns_same : (node : ℕ) → columns_at run node ≡ (shown_at tables node).columns
@@ -103,7 +103,7 @@ module _ (run : Run) (h : IsLawfulRun run) where
         (calls_told caller 0 steps (omega (arith, few)) (omega (arith, each.0.count, calls_few)) each.0.none_past)
         (callers_told snaps (caller + 1) others (omega (arith, few)) calls_few each.1)
 
-  where_told : (published : List Published) (entries : List Entry) → (0 < length published → AllByRecursion Told entries) → AllByRecursion Told (where_published published entries)
+  where_told : (published : List Published) (entries : List OutputEntry) → (0 < length published → AllByRecursion Told entries) → AllByRecursion Told (where_published published entries)
   where_told [] entries each = tt
   where_told (first ∷ others) entries each = each (omega arith)
 

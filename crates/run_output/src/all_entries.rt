@@ -2,7 +2,7 @@
 ghost use Rattle.std.specs.Prelude.{◌≡◌, List, IfOk};
 ghost use Rattle.std.specs.List.{AllByRecursion};
 ghost use Rattle.update_text.specs.Reading.{Gives};
-ghost use Rattle.run_output.specs.declared.entry.Entry.{Entry as EntryOf};
+ghost use Rattle.run_output.specs.declared.entry.OutputEntry.{OutputEntry as EntryOf};
 ghost use Rattle.run_output.specs.Entries.{AreShown, IsEntry, output_text};
 
 use crate::entry::Entry;

@@ -6,7 +6,7 @@ use update_text::Snapshot;
 
 /// What an output tells at one place. A table is told by its place among the tables shown.
 #[derive(Drop)]
-pub enum Entry {
+pub enum OutputEntry {
     /// The change of a table from the step before, or the message before, to this step.
     Update {
         table: usize,

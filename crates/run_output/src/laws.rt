@@ -9,7 +9,7 @@ ghost use Rattle.tick_model.specs.LawfulRuns.{IsLawfulRun};
 ghost use Rattle.tick_model.specs.Spoiled.{good};
 ghost use Rattle.tick_model.specs.States.{empty_at, state};
 ghost use Rattle.tick_model.specs.Texts.{snapshots_text, updates_text};
-ghost use Rattle.run_output.specs.declared.entry.Entry.{Entry};
+ghost use Rattle.run_output.specs.declared.entry.OutputEntry.{OutputEntry};
 ghost use Rattle.run_output.specs.Entries.{AreShown, IsEntry, output_text};
 ghost use Rattle.run_output.specs.Runs.{copy_after, snapshot_entries, tables_of, update_entries};
 
@@ -40,5 +40,5 @@ pub fn updates_make_tables()
         → (node : ℕ) → is_among node run.plan.printed ≡ true
         → copy_after node (empty_at run.plan node) (update_entries run step) ≡ table_at (state run step) node }
     ensures before { (run : Run) (step last : ℕ) → step ≤ last
-        → (later : List Entry) × (update_entries run last ≡ update_entries run step ++ later) }
+        → (later : List OutputEntry) × (update_entries run last ≡ update_entries run step ++ later) }
 {}

@@ -11,7 +11,7 @@ mod one_entry;
 mod split;
 
 pub use all_entries::read_output;
-pub use entry::Entry;
+pub use entry::OutputEntry;
 pub use laws::{
     entries_of_runs_are_told, nodes_of_runs_are_shown, runs_are_outputs, updates_make_tables,
 };

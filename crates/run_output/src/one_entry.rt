@@ -6,8 +6,8 @@ ghost use Rattle.tick_model.specs.Texts.{done_record, record_text};
 ghost use Rattle.update_text.specs.declared.shown.Shown.{Shown as ShownOf};
 ghost use Rattle.update_text.specs.declared.printed.Snapshot.{Snapshot as SnapshotOf};
 ghost use Rattle.update_text.specs.Reading.{Gives};
-ghost use Rattle.run_output.specs.declared.entry.Entry.{Entry as EntryOf};
-ghost use Rattle.run_output.specs.declared.entry.Entry.TheVariants.{Update, Snapshot as SnapshotEntry, Done, Fault};
+ghost use Rattle.run_output.specs.declared.entry.OutputEntry.{OutputEntry as EntryOf};
+ghost use Rattle.run_output.specs.declared.entry.OutputEntry.TheVariants.{Update, Snapshot as SnapshotEntry, Done, Fault};
 ghost use Rattle.run_output.specs.Entries.{AreShown, IsEntry, entry_text, shown_at};
 
 use crate::entry::Entry;

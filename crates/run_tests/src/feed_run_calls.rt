@@ -55,7 +55,7 @@ impl Failing {
 
 /// One call of the program.
 #[derive(Clone, Copy)]
-struct Case {
+struct FeedCase {
     /// The words, with one space between two of them.
     words: &'static str,
     /// The file `s`, where it is there.
@@ -147,7 +147,11 @@ fn compare<R: Abort + Threads + Wait + Sync>(
     Ok(())
 }
 
-fn run<R: Abort + Threads + Wait + Sync>(rt: &R, alloc: Global, case: &Case) -> Result<(), Fail> {
+fn run<R: Abort + Threads + Wait + Sync>(
+    rt: &R,
+    alloc: Global,
+    case: &FeedCase,
+) -> Result<(), Fail> {
     let texts = [("s", case.script), ("f", case.feed), ("t.csv", case.table)];
     compare(
         rt,
@@ -228,7 +232,7 @@ fn so_many_words_are_kept(rt: HostRuntime) -> Result<(), Fail> {
 
 #[test]
 fn words_and_files_are_answered(rt: HostRuntime) -> Result<(), Fail> {
-    let whole = Case {
+    let whole = FeedCase {
         words: "run s f",
         script: Some(FROM_FILE),
         feed: Some(""),
@@ -239,79 +243,79 @@ fn words_and_files_are_answered(rt: HostRuntime) -> Result<(), Fail> {
     };
     let cases = [
         whole,
-        Case {
+        FeedCase {
             table: Some("y\n1\n\"\"\n3\n"),
             status: 5,
             bytes: "fault,5,table,t,1,header\n",
             ..whole
         },
-        Case {
+        FeedCase {
             script: None,
             status: 3,
             bytes: "fault,3,read,s\n",
             ..whole
         },
-        Case {
+        FeedCase {
             table: None,
             status: 3,
             bytes: "fault,3,read,t.csv\n",
             ..whole
         },
-        Case {
+        FeedCase {
             feed: None,
             status: 3,
             bytes: "fault,3,read,f\n",
             ..whole
         },
-        Case {
+        FeedCase {
             words: "",
             status: 2,
             bytes: "fault,2,usage\n",
             ..whole
         },
-        Case {
+        FeedCase {
             words: "run s",
             status: 2,
             bytes: "fault,2,usage\n",
             ..whole
         },
-        Case {
+        FeedCase {
             words: "run s f --workers 0",
             status: 2,
             bytes: "fault,2,usage\n",
             ..whole
         },
-        Case {
+        FeedCase {
             failing: Failing::load(1),
             status: 3,
             bytes: "fault,3,read,s\n",
             ..whole
         },
-        Case {
+        FeedCase {
             failing: Failing::load(2),
             status: 3,
             bytes: "fault,3,read,t.csv\n",
             ..whole
         },
-        Case {
+        FeedCase {
             failing: Failing::load(3),
             status: 3,
             bytes: "fault,3,read,f\n",
             ..whole
         },
-        Case {
+        FeedCase {
             failing: Failing::write(1),
             status: 10,
             bytes: "",
             ..whole
         },
-        Case {
+        FeedCase {
             failing: Failing::write(2),
             status: 10,
             bytes: "step,0,t\na,0,1\na,1,\na,2,3\n",
             ..whole
         },
-        Case {
+        FeedCase {
             failing: Failing::write(3),
             ..whole
         },

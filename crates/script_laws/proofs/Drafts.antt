@@ -5,7 +5,7 @@ use Rattle.std.{specs.Prelude.{ℤ, unwrap_or, nat_le, slice_index}, specs.List.
 use Rattle.key_lists.proofs.Every.{every_weaker, every-append, every-map}
 use Rattle.tick_model.{specs.declared.plan.Agg.Agg as Aggregate, specs.declared.plan.Choice.Choice, specs.declared.plan.ColumnSpec.ColumnSpec, specs.declared.plan.Expr.Expr, specs.declared.plan.Kind.Kind, specs.declared.plan.Kind.TheVariants.Long, specs.declared.plan.SortBy.SortBy, specs.declared.plan.Op.Op, specs.Operators.{inputs_of, columns_fit}, specs.Names.is_name, specs.Columns.{kinds_of, kind_of, kind_at, has_kind, agg_kind, some_of, is_bound, is_test_bound, test_fits, same_columns, have_kinds, keep_names, follow, same_kind_at}}
 use Rattle.tick_model.specs.declared.plan.Op.TheVariants as ops
-use Rattle.script_lines.{specs.declared.fault.ScriptKind.ScriptKind, specs.declared.line.Computed.Computed, specs.declared.line.Declared.Declared, specs.declared.line.Gathered.Gathered, specs.declared.making.Making.Making, specs.declared.making.Making.TheVariants.{Keep, View, Join, AsOf, Agg, Merge, Sort, Head, Tail}, specs.declared.line.Pair.Pair, specs.declared.line.Sorted.Sorted, specs.declared.line.Test.Test, specs.Answers.◌>>=◌, specs.Kept.{IsNamed, TestKeeps, DeclaredKeeps, ComputedKeeps, PairKeeps, GatheredKeeps, MembersKeep}, specs.Making.MakingKeeps}
+use Rattle.script_lines.{specs.declared.fault.ScriptKind.ScriptKind, specs.declared.line.Computed.Computed, specs.declared.line.Declared.Declared, specs.declared.line.AggColumn.AggColumn, specs.declared.making.Making.Making, specs.declared.making.Making.TheVariants.{Keep, View, Join, AsOf, Agg, Merge, Sort, Head, Tail}, specs.declared.line.Pair.Pair, specs.declared.line.Sorted.Sorted, specs.declared.line.Test.Test, specs.Answers.◌>>=◌, specs.Kept.{IsNamed, TestKeeps, DeclaredKeeps, ComputedKeeps, PairKeeps, GatheredKeeps, MembersKeep}, specs.Making.MakingKeeps}
 use Rattle.script_reader.{specs.Binding.{bound_expr, bound_test, bound_op}, specs.Checks.{source_column, source_draft, Before, Draft, table_at, taken_of, gathered_of, kept, viewed, joined, joined_as_of, grouped, merged, sorted, headed, tailed, drafted, named_columns, all_there, expr_kinds, viewed_columns, joined_columns, pairs_fit, gathered_columns, column_at, rows_of, node_named, each, pair_of, sort_of}}
 use Rattle.script_laws.{proofs.Reading.{Holds, done, then, whatever, each_read, each_long, node_found, column_found}, proofs.Bound.{kinds_bound, test_fits_bound, exprs_bound, test_bound}, proofs.Columns.{IsTable, table_within, some_alike, some_before, some_behind, same_columns-refl, follow-append, have_kinds-append, have_kinds-named, named-named, some-named, kind_there, kinds_there, kinds_of_columns, keep_names-append, names_of_columns, few_rows, first_within}, proofs.Texts.{AreWritten, Grow, not_grown, test_read, AreFormulas, exprs_read}, proofs.Written.IsWrittenDraft}
 
@@ -141,19 +141,19 @@ module _ (ranks : List ℕ) (before : Before) (long : length before.names ≡ le
       }))))))
 
   -- a group's columns
-  grouped_is : (input : ℕ) (by : List ℕ) (gathered : List Gathered) (aggs : List Aggregate) → input < length before.tables → IsTable (T input) → AllByRecursion (λ column. column < length (T input)) by → length aggs ≡ length gathered
+  grouped_is : (input : ℕ) (by : List ℕ) (gathered : List AggColumn) (aggs : List Aggregate) → input < length before.tables → IsTable (T input) → AllByRecursion (λ column. column < length (T input)) by → length aggs ≡ length gathered
       → some_of gathered ≡ true → AllByRecursion GatheredKeeps gathered
       → F (record { op = ops.Agg input by aggs; columns = gathered_columns (T input) by gathered aggs; kinds_fit = all_there (map (agg_kind (T input)) aggs); rows_fit = true; literals = before.literals })
   grouped_is input by gathered aggs within is by_within long some keep =
-      let names : List (List ℕ) = map (λ (g : Gathered). g.name) gathered in
+      let names : List (List ℕ) = map (λ (g : AggColumn). g.name) gathered in
       let kinds : List (Option Kind) = map (agg_kind (T input)) aggs in
-      let counted : length names ≡ length kinds = length-map gathered (λ (g : Gathered). g.name) ∙ sym long ∙ sym (length-map aggs (agg_kind (T input))) in
+      let counted : length names ≡ length kinds = length-map gathered (λ (g : AggColumn). g.name) ∙ sym long ∙ sym (length-map aggs (agg_kind (T input))) in
       record {
         inputs = (within, tt);
         table = record {
-          some = some_behind (map (column_at (T input)) by) (named_columns names kinds) (some-named names kinds counted (some_alike names gathered (length-map gathered (λ (g : Gathered). g.name)) some));
+          some = some_behind (map (column_at (T input)) by) (named_columns names kinds) (some-named names kinds counted (some_alike names gathered (length-map gathered (λ (g : AggColumn). g.name)) some));
           named = every-append (λ column. is_name column.name ≡ true) (map (column_at (T input)) by) (named_columns names kinds) (names_of_columns (T input) by is.named by_within)
-              (named-named names kinds (every-map IsNamed (λ (g : Gathered). g.name) gathered keep));
+              (named-named names kinds (every-map IsNamed (λ (g : AggColumn). g.name) gathered keep));
         };
         fits = λ e.
             and_from (some_of aggs && have_kinds (gathered_columns (T input) by gathered aggs) (map (kind_at (T input)) by ++ kinds)) (keep_names (gathered_columns (T input) by gathered aggs) (T input) by)
@@ -163,7 +163,7 @@ module _ (ranks : List ℕ) (before : Before) (long : length before.names ≡ le
         written = record { grown = unchanged; literals = refl; numbers = tt };
       }
 
-  sound_agg : (name : List ℕ) (by : List (List ℕ)) (gathered : List Gathered) → MembersKeep GatheredKeeps gathered → Holds F (grouped before name by gathered)
+  sound_agg : (name : List ℕ) (by : List (List ℕ)) (gathered : List AggColumn) → MembersKeep GatheredKeeps gathered → Holds F (grouped before name by gathered)
   unfolding grouped
   sound_agg name by gathered keep =
       named name _ (λ input within is.

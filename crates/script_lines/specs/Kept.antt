@@ -3,7 +3,7 @@
 --     MembersKeep Keeps members      one member or more, and each keeps its rules
 use Rattle.std.{specs.Prelude.{◌≡◌, ℕ, true, false, List, FitsSigned}, specs.List.AllByRecursion, specs.Int.w64}
 use Rattle.tick_model.{specs.Changes.is_none, specs.Names.is_name, specs.Columns.some_of}
-use Rattle.script_lines.{specs.declared.line.Computed.Computed, specs.declared.line.Declared.Declared, specs.declared.line.Formula.{Formula, Column, Number, Text, Null, Neg', Add', Sub', Mul'}, specs.declared.line.Gathered.Gathered, specs.declared.line.Pair.Pair, specs.declared.line.Test.{Test, Compare, And', Or', Not'}}
+use Rattle.script_lines.{specs.declared.line.Computed.Computed, specs.declared.line.Declared.Declared, specs.declared.line.Formula.{Formula, Column, Number, Text, Null, Neg', Add', Sub', Mul'}, specs.declared.line.AggColumn.AggColumn, specs.declared.line.Pair.Pair, specs.declared.line.Test.{Test, Compare, And', Or', Not'}}
 
 abbrev pub IsNamed : List ℕ → Type 0
 IsNamed name = is_name name ≡ true
@@ -33,7 +33,7 @@ ComputedKeeps computed = IsNamed computed.name × FormulaKeeps computed.formula
 abbrev pub PairKeeps : Pair → Type 0
 PairKeeps pair = IsNamed pair.first × IsNamed pair.second
 
-abbrev pub GatheredKeeps : Gathered → Type 0
+abbrev pub GatheredKeeps : AggColumn → Type 0
 GatheredKeeps gathered = IsNamed gathered.name
 
 abbrev pub MembersKeep : {X : Type 0} → (X → Type 0) → List X → Type 0

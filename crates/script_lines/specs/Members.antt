@@ -4,7 +4,7 @@
 use Rattle.std.{specs.Prelude.{ℕ, zero, suc, Bool, true, false, ℤ, List, [], ◌∷◌, ◌++◌, Option, Some, None, Ok, Err, codes, if◌then◌else◌}, specs.Str.bytes_eq}
 use Rattle.tick_model.specs.declared.plan.Kind.{Kind}
 use Rattle.tick_model.specs.declared.plan.Kind.TheVariants as kinds
-use Rattle.script_lines.{specs.declared.fault.ScriptKind.TheVariants.BadLine, specs.declared.line.Computed.Computed, specs.declared.line.Declared.Declared, specs.declared.line.Function.Function, specs.declared.line.Function.TheVariants.{Count, Sum, Min, Max, First, Last}, specs.declared.line.Gathered.Gathered, specs.declared.line.Pair.Pair, specs.declared.line.Sorted.Sorted, specs.declared.lists.Separator.Separator, specs.declared.lists.Separator.TheVariants.{Comma, Nothing}, specs.declared.token.Token.Token, specs.Answers.{◌>>=◌, when_some}, specs.Formulas.{Reading, after_word, after_mark, mark_expected, name_at, expr_at}}
+use Rattle.script_lines.{specs.declared.fault.ScriptKind.TheVariants.BadLine, specs.declared.line.Computed.Computed, specs.declared.line.Declared.Declared, specs.declared.line.Function.Function, specs.declared.line.Function.TheVariants.{Count, Sum, Min, Max, First, Last}, specs.declared.line.AggColumn.AggColumn, specs.declared.line.Pair.Pair, specs.declared.line.Sorted.Sorted, specs.declared.lists.Separator.Separator, specs.declared.lists.Separator.TheVariants.{Comma, Nothing}, specs.declared.token.Token.Token, specs.Answers.{◌>>=◌, when_some}, specs.Formulas.{Reading, after_word, after_mark, mark_expected, name_at, expr_at}}
 use Rattle.script_lines.specs.declared.token.Token.TheVariants as tokens
 
 -- whether a list without separators ends: at the end of the line, or at the word `from`
@@ -81,7 +81,7 @@ function_at ts =
     (Err BadLine))))))
 
 -- COL = FUNC
-unfoldable pub gathered_at : List Token → Reading Gathered
+unfoldable pub gathered_at : List Token → Reading AggColumn
 gathered_at ts = do
   name ← name_at ts
   rest ← mark_expected (codes "=") name.1

@@ -61,7 +61,7 @@ pub enum Function<'a> {
 
 /// A new column of an aggregation.
 #[derive(Drop)]
-pub struct Gathered<'a> {
+pub struct AggColumn<'a> {
     pub name: Word<'a>,
     pub function: Function<'a>,
 }

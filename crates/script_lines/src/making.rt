@@ -4,7 +4,7 @@ ghost use Rattle.script_lines.specs.Answers.{Reads};
 ghost use Rattle.script_lines.specs.Bare.{bare_making};
 ghost use Rattle.script_lines.specs.Making.{keep_at, view_at, choice_at, pairs_after, join_at, as_of_at, agg_at, merge_at, sort_at, other_making_at, making_at};
 
-use crate::line::{Computed, Gathered, Pair, Sorted, Test};
+use crate::line::{AggColumn, Computed, Pair, Sorted, Test};
 use crate::lists::{Separator, list, optional_list};
 use crate::members::{digits, pair};
 use crate::parts::{BAD_LINE, Reading, after_word, name, word_expected};
@@ -43,7 +43,7 @@ pub enum Making<'a> {
     Agg {
         input: Word<'a>,
         by: Items<Word<'a>>,
-        columns: Items<Gathered<'a>>,
+        columns: Items<AggColumn<'a>>,
     },
     Merge {
         inputs: Items<Word<'a>>,

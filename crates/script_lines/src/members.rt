@@ -7,7 +7,7 @@ ghost use Rattle.script_lines.specs.Members.{kind_at, declared_at, computed_at, 
 ghost use Rattle.script_lines.specs.Bare.{bare_column};
 
 use crate::formulas::expression;
-use crate::line::{Computed, Declared, Function, Gathered, Pair, Sorted};
+use crate::line::{AggColumn, Computed, Declared, Function, Pair, Sorted};
 use crate::lists::Member;
 use crate::parts::{BAD_LINE, Reading, after_mark, after_word, mark_expected, name};
 use crate::token::{Token, Word};
@@ -99,13 +99,13 @@ fn function<'a, 't>(tokens: &'t [Token<'a>]) -> Reading<'a, 't, Function<'a>>
 
 /// COL = FUNC.
 #[tactic(auto, unfolding(crate::specs::Members::gathered_at))]
-fn gathered<'a, 't>(tokens: &'t [Token<'a>]) -> Reading<'a, 't, Gathered<'a>>
+fn gathered<'a, 't>(tokens: &'t [Token<'a>]) -> Reading<'a, 't, AggColumn<'a>>
     ensures { Reads (λ x. (x.0, x.1.now)) result (gathered_at tokens.now) }
 {
     let (name, rest) = name(tokens)?;
     let rest = mark_expected("=", rest)?;
     let (function, rest) = function(rest)?;
-    Ok((Gathered { name, function }, rest))
+    Ok((AggColumn { name, function }, rest))
 }
 
 /// [-] COL.
@@ -200,14 +200,14 @@ impl<'a> Member<'a> for Pair<'a> {
     }
 }
 
-impl<'a> Member<'a> for Gathered<'a> {
+impl<'a> Member<'a> for AggColumn<'a> {
     ghost use Rattle.script_lines.specs.Members.{gathered_at};
 
     ghost shown = { λ column. column };
 
     ghost member_at = { gathered_at };
 
-    fn read<'t>(_alloc: Global, tokens: &'t [Token<'a>]) -> Reading<'a, 't, Gathered<'a>> {
+    fn read<'t>(_alloc: Global, tokens: &'t [Token<'a>]) -> Reading<'a, 't, AggColumn<'a>> {
         gathered(tokens)
     }
 }

@@ -1,6 +1,7 @@
 -- The place of a text among texts that rise, found by halves.
-use Rattle.std.proofs.Common.{◌≡◌, refl, ap, sym, ◌∙◌, true, true≢false, ℕ, zero, suc, ◌+◌, ◌<◌, arith, List, [], ◌∷◌, length, get_or, inl, inr}
+use Rattle.std.proofs.Common.{◌≡◌, refl, ap, sym, ◌∙◌, true, ℕ, zero, suc, ◌+◌, ◌<◌, arith, List, [], ◌∷◌, length, get_or, inl, inr}
 use Rattle.std.{specs.Prelude.{Result, Ok, Err, MatchResult}, specs.List.{AllByRecursion, position_or_len}, specs.List.Sorted.{IsBinarySearchResult, IsSearchInRange, IsSortedBy}, specs.Ordering.{nat_cmp, is_lt, is_eq, ordering_reverse}, specs.Str.bytes_eq, specs.Cmp.Lexicographic.{slice_cmp, nat_list_cmp_total}, specs.declared.cmp.Ordering.Ordering, specs.declared.cmp.Ordering.TheVariants.{Less, Equal, Greater}, proofs.lemmas.Bool.cases_lt, proofs.lemmas.Bool.Decides.nat_tests, proofs.lemmas.Cmp.same_from_slice_cmp, proofs.lemmas.List.get_or_default, proofs.lemmas.List.Sorted.searchable_from_sorted, proofs.lemmas.List.Sums.position_or_len_is}
+use Rattle.key_lists.proofs.Booleans.{less_from}
 use Rattle.tick_model.specs.LawfulRuns.{AreTexts, is_before}
 
 abbrev order : List ℕ → List ℕ → Ordering
@@ -8,11 +9,6 @@ order = slice_cmp nat_cmp
 
 equal_texts : (a b : List ℕ) → is_eq (order a b) ≡ bytes_eq a b
 equal_texts a b = same_from_slice_cmp nat_cmp is_eq bytes_eq refl (λ _ _. refl) (λ _ _. refl) (λ x y xs ys o h. grind (arith, nat_tests)) a b (order a b) refl
-
-less_from : (o : Ordering) → is_lt o ≡ true → o ≡ Less
-less_from Less e = refl
-less_from Equal e = absurd (true≢false (sym e))
-less_from Greater e = absurd (true≢false (sym e))
 
 -- an earlier text is less than a later one
 before_later : (text : List ℕ) (texts : List (List ℕ)) (k : ℕ) → AllByRecursion (λ later. is_before text later ≡ true) texts → k < length texts → order text (get_or texts k []) ≡ Less

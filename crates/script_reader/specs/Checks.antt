@@ -7,7 +7,7 @@ use Rattle.std.{specs.Prelude.{ℕ, ◌^◌, ◌==◌, ◌&&◌, Bool, true, not
 use Rattle.tick_model.{specs.declared.plan.Agg.Agg as Aggregate, specs.declared.plan.Choice.Choice, specs.declared.plan.ColumnSpec.ColumnSpec, specs.declared.plan.Expr.{Expr, Cell, Number, Null, Literal}, specs.declared.plan.Kind.Kind, specs.declared.plan.Kind.TheVariants.Long, specs.declared.plan.Node.Node, specs.declared.plan.OnPair.OnPair, specs.declared.plan.Op.Op, specs.declared.plan.Pred.{Pred, Compare}, specs.declared.plan.Published.Published, specs.declared.plan.SortBy.SortBy, specs.Names.{is_one_of, are_distinct}, specs.Plans.{key_bounds, published_words}, specs.Columns.{kind_of, kinds_of, kind_at, test_fits, same_kind_at, has_kind, agg_kind}, specs.Operators.{columns_fit, bound_of}}
 use Rattle.tick_model.specs.declared.plan.Agg.TheVariants as aggregates
 use Rattle.tick_model.specs.declared.plan.Op.TheVariants as ops
-use Rattle.script_lines.{specs.declared.fault.ScriptKind.ScriptKind, specs.declared.fault.ScriptKind.TheVariants.{UnknownName, TakenName, UnknownColumn, TakenColumn, WrongKind, NumberRange, TooManyNodes, TooManyColumns, KeySpace, TooWide}, specs.declared.line.Computed.Computed, specs.declared.line.Declared.Declared, specs.declared.line.Formula.{Formula, Column, Number as Digits, Text as Quoted, Null as Nothing, Neg' as Minus', Add' as Plus', Sub' as Less', Mul' as Times'}, specs.declared.line.Function.Function, specs.declared.line.Function.TheVariants.{Count, Sum, Min, Max, First, Last}, specs.declared.line.Gathered.Gathered, specs.declared.line.Line.Line, specs.declared.making.Making.Making, specs.declared.making.Making.TheVariants.{Keep, View, Join, AsOf, Agg, Merge, Sort, Head, Tail}, specs.declared.line.Pair.Pair, specs.declared.line.Sorted.Sorted, specs.declared.line.Test.{Test, Compare as Compares, And' as Both', Or' as Either', Not' as Never'}, specs.Answers.◌>>=◌}
+use Rattle.script_lines.{specs.declared.fault.ScriptKind.ScriptKind, specs.declared.fault.ScriptKind.TheVariants.{UnknownName, TakenName, UnknownColumn, TakenColumn, WrongKind, NumberRange, TooManyNodes, TooManyColumns, KeySpace, TooWide}, specs.declared.line.Computed.Computed, specs.declared.line.Declared.Declared, specs.declared.line.Formula.{Formula, Column, Number as Digits, Text as Quoted, Null as Nothing, Neg' as Minus', Add' as Plus', Sub' as Less', Mul' as Times'}, specs.declared.line.Function.Function, specs.declared.line.Function.TheVariants.{Count, Sum, Min, Max, First, Last}, specs.declared.line.AggColumn.AggColumn, specs.declared.line.Line.Line, specs.declared.making.Making.Making, specs.declared.making.Making.TheVariants.{Keep, View, Join, AsOf, Agg, Merge, Sort, Head, Tail}, specs.declared.line.Pair.Pair, specs.declared.line.Sorted.Sorted, specs.declared.line.Test.{Test, Compare as Compares, And' as Both', Or' as Either', Not' as Never'}, specs.Answers.◌>>=◌}
 use Rattle.script_lines.specs.declared.line.Line.TheVariants as lines
 use Rattle.script_reader.{specs.declared.script.Script.Script, specs.declared.script.SourceFile.SourceFile, specs.Plain.{neg, add, sub, mul, both, either, negated}}
 
@@ -158,13 +158,13 @@ joined_as_of before left_name right_name on at take = do
 abbrev pub column_at : List ColumnSpec → ℕ → ColumnSpec
 column_at columns column = slice_index_or columns column (record { name = []; kind = Long })
 
-abbrev pub gathered_columns : List ColumnSpec → List ℕ → List Gathered → List Aggregate → List ColumnSpec
+abbrev pub gathered_columns : List ColumnSpec → List ℕ → List AggColumn → List Aggregate → List ColumnSpec
 gathered_columns columns by gathered aggs = map (column_at columns) by ++ named_columns (map (λ g. g.name) gathered) (map (agg_kind columns) aggs)
 
-unfoldable pub gathered_of : List ColumnSpec → Gathered → Result Aggregate ScriptKind
+unfoldable pub gathered_of : List ColumnSpec → AggColumn → Result Aggregate ScriptKind
 gathered_of columns gathered = aggregate_of columns gathered.function
 
-unfoldable pub grouped : Before → List ℕ → List (List ℕ) → List Gathered → Result Draft ScriptKind
+unfoldable pub grouped : Before → List ℕ → List (List ℕ) → List AggColumn → Result Draft ScriptKind
 grouped before name by gathered = do
   input ← node_named before.names name
   keys ← each (column_named (table_at before.tables input)) by

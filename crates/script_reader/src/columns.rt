@@ -8,7 +8,7 @@ ghost use Rattle.script_reader.specs.Checks.{column_named as column_named_of, al
 
 use crate::numbers::found;
 use script_lines::fault::{LineFault, ScriptKind};
-use script_lines::line::{Computed, Declared, Gathered, Pair};
+use script_lines::line::{AggColumn, Computed, Declared, Pair};
 use script_lines::token::Word;
 use std::alloc::{AllocError, Global};
 use tick_model::items::Items;
@@ -34,7 +34,7 @@ impl<'a> NewColumn for Computed<'a> {
     }
 }
 
-impl<'a> NewColumn for Gathered<'a> {
+impl<'a> NewColumn for AggColumn<'a> {
     ghost new_name = { λ gathered. gathered.name };
 
     fn new_name(&self) -> &str {

@@ -15,7 +15,7 @@ use crate::nodes::Nodes;
 use crate::numbers::rows;
 use crate::texts::Texts;
 use script_lines::fault::LineFault;
-use script_lines::line::{Computed, Gathered, Pair, Sorted, Test};
+use script_lines::line::{AggColumn, Computed, Pair, Sorted, Test};
 use script_lines::making::Making;
 use script_lines::token::Word;
 use std::alloc::{AllocError, Global};
@@ -241,7 +241,7 @@ fn gathered_columns(
     alloc: Global,
     columns: &[ColumnSpec],
     by: &[u32],
-    gathered: &[Gathered],
+    gathered: &[AggColumn],
     aggs: &[Agg],
 ) -> Result<Items<ColumnSpec>, AllocError>
     ensures { IfOk result (λ all. all ≡ gathered_columns_of columns.now by.now gathered.now aggs.now) }
@@ -258,7 +258,7 @@ fn grouped(
     nodes: &Nodes,
     input: &Word,
     by: &[Word],
-    gathered: &[Gathered],
+    gathered: &[AggColumn],
 ) -> Result<Draft, LineFault>
     ensures { (literals : List (List ℕ)) → Gives (shown literals) result (grouped_of (before nodes.now.nodes.items literals) input.now by.now gathered.now) }
 {

@@ -7,7 +7,7 @@ ghost use Rattle.script_reader.specs.Checks.{each, column_named as column_named_
 use crate::columns::column_named;
 use crate::nodes::Nodes;
 use script_lines::fault::LineFault;
-use script_lines::line::{Function, Gathered, Pair, Sorted};
+use script_lines::line::{AggColumn, Function, Pair, Sorted};
 use script_lines::token::Word;
 use std::alloc::Global;
 use tick_model::items::Items;
@@ -115,7 +115,7 @@ fn aggregate_of(columns: &[ColumnSpec], function: &Function) -> Result<Agg, Line
 }
 
 #[tactic(auto, unfolding(crate::specs::Checks::gathered_of))]
-fn gathered_of(columns: &[ColumnSpec], gathered: &Gathered) -> Result<Agg, LineFault>
+fn gathered_of(columns: &[ColumnSpec], gathered: &AggColumn) -> Result<Agg, LineFault>
     ensures { Gives (λ agg. agg) result (gathered_over columns.now gathered.now) }
 {
     aggregate_of(columns, &gathered.function)
@@ -125,7 +125,7 @@ fn gathered_of(columns: &[ColumnSpec], gathered: &Gathered) -> Result<Agg, LineF
 pub(crate) fn aggregates_of(
     alloc: Global,
     columns: &[ColumnSpec],
-    gathered: &[Gathered],
+    gathered: &[AggColumn],
 ) -> Result<Items<Agg>, LineFault>
     ensures { Gives (λ aggs. aggs) result (each (gathered_over columns.now) gathered.now) }
 {

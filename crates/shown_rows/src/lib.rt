@@ -6,12 +6,14 @@
 //! (`KeyPairs`). No call walks the keys of a whole table.
 #![tactic(auto)]
 
+mod crossing;
 mod keys;
 mod pairs;
 mod rows;
 mod shown;
 mod staying;
 
+pub use crossing::Crossing;
 pub use keys::{keys_among, put_last, put_last_if};
 pub use pairs::{KeyPairs, Pairs};
 pub use rows::Chooses;

@@ -9,7 +9,7 @@ ghost use Rattle.tick_model.specs.Updates.{differs_in, new_keys};
 ghost use Rattle.tick_table.specs.Exact.{IsExact};
 
 use crate::pairs::Pairs;
-use row_changes::Told;
+use row_changes::ChangedRows;
 use row_set::RowSet;
 use std::alloc::{AllocError, Global};
 use std::sync::ledger::Ledger;
@@ -26,7 +26,7 @@ pub(crate) fn tell_staying<L: Ledger>(
     leaving: &RowSet,
     cells: Vec<i64>,
     reads: &mut Steps<L>,
-) -> Result<Told, AllocError>
+) -> Result<ChangedRows, AllocError>
     requires exact { IsExact input.now }
     ensures modified { IfOk result (λ told. told.modified ≡ new_keys (staying input.now shown.now leaving.now)) }
     ensures columns { IfOk result (λ told. (column : ℕ) → is_among column told.columns ≡ (nat_lt column input.now.new.width && list_any (differs_in input.now.old input.now.new column) (staying input.now shown.now leaving.now))) }
@@ -38,7 +38,7 @@ pub(crate) fn tell_staying<L: Ledger>(
     let update = input.update();
     let from = update.modified_before(input.prev_rows())?;
     let _ = update.modified().len();
-    let mut told = Told {
+    let mut told = ChangedRows {
         cells,
         modified: RowSet::new(alloc),
         columns: ColumnSet::none(),

@@ -1,7 +1,7 @@
 -- What the calls of a store take from its rule, over plain variables.
 use Rattle.std.proofs.Common.{◌≡◌, ℕ, true, false, ⊎_elim, cond, Bool, lt-ltb, le-ltb, append_assoc, length-append, mul-le-mul_right, ◌+◌, ◌*◌, ◌%◌, ◌<◌, ◌≤◌, ◌^◌, List, [], ◌∷◌, ◌++◌, length, get_or, sym, refl, ap, ◌∙◌, subst, arith, Some}
 use Rattle.tick_model.{specs.declared.feed.Run.Run, specs.declared.plan.Published.Published, specs.LawfulRuns.IsLawfulRun, specs.Clock.{completed, updating}, specs.Words.line}
-use Rattle.snapshot_store.{specs.Lines.{below, count, limit, width, size, total, spot, line_of, start_in, total_in, IsWhole}, specs.Views.IsSameBut, specs.Looks.{looks_of, last_or, NeverFalls, latest}, specs.Models.{CallerModel, Place, IsCalling, IsAt, HasRoom, words_of}, specs.Answers.{AreMoved, IsAttempt, IsReading, IsSnapshot, answer}, specs.declared.answers.Attempt.Attempt, specs.declared.answers.Attempt.TheVariants.{Taken, Moved}, specs.declared.answers.Taken.Taken as Snapped, specs.declared.board.View.View, specs.declared.board.Doing.TheVariants.Writing, specs.declared.writers.Phase.TheVariants.Begun, proofs.Places.{below_less, spot_bound}, proofs.Published.total_small}
+use Rattle.snapshot_store.{specs.Lines.{below, count, limit, width, size, total, spot, line_of, start_in, total_in, IsWhole}, specs.Views.IsSameBut, specs.Looks.{looks_of, last_or, NeverFalls, latest}, specs.Models.{CallerModel, Place, IsCalling, IsAt, HasRoom, words_of}, specs.Answers.{AreMoved, IsAttempt, IsReading, IsSnapshot, answer}, specs.declared.answers.Attempt.Attempt, specs.declared.answers.Attempt.TheVariants.{Taken, Moved}, specs.declared.answers.Taken.Taken as Snapped, specs.declared.board.StoreView.StoreView, specs.declared.board.Doing.TheVariants.Writing, specs.declared.writers.Phase.TheVariants.Begun, proofs.Places.{below_less, spot_bound}, proofs.Published.total_small}
 use Rattle.std.{specs.List.All, proofs.lemmas.Bool.cases_lt, proofs.lemmas.List.{append-nil, nil_from_length}, proofs.lemmas.List.Elements.All-push, proofs.lemmas.Option.same_Some, proofs.Math.Seq.get_or-append_seam}
 
 pub first_place : (run : Run) (tables : List Published) (bank all start p : ℕ) → tables ≡ run.plan.published → all ≡ total_in tables → start ≡ start_in tables p → 2 + bank * all + start ≡ spot run bank p 0
@@ -43,10 +43,10 @@ pub never_falls_more : (d : ℕ) (xs : List ℕ) (y : ℕ) → NeverFalls d xs �
 never_falls_more d [] y h l = (l, tt)
 never_falls_more d (x ∷ xs) y h l = (h.0, never_falls_more x xs y h.1 l)
 
-pub room_on : (v w : View) (n : ℕ) → w.run ≡ v.run → HasRoom v n → HasRoom w n
+pub room_on : (v w : StoreView) (n : ℕ) → w.run ≡ v.run → HasRoom v n → HasRoom w n
 room_on v w n same room run p named inside = room run p (sym same ∙ named) inside
 
-pub at_begun : (v : View) (run : Run) (step n : ℕ) → v.run ≡ Some run → IsAt v step (Begun n)
+pub at_begun : (v : StoreView) (run : Run) (step n : ℕ) → v.run ≡ Some run → IsAt v step (Begun n)
     → (v.floor ≡ updating (step + 1)) × (step + 1 < 2 ^ 62) × (v.doing ≡ Writing step (words_of run (step + 1) n)) × (v.turn ≡ true) × ((p : ℕ) → p < n → IsWhole run (step + 1) p)
 at_begun v run step n named at =
     let h = at.3 in let e : h.0 ≡ run = same_Some h.0 run (sym h.1 ∙ named) in

@@ -9,13 +9,13 @@ use Rattle.std.{proofs.lemmas.List.Elements.{All-push, All-weaker}, proofs.Math.
 use prog.Atomic.{either}
 use Rattle.atomic_table.{specs.Table.{Me, State, step, keeps, stepped, Allows, Splits, Joins}, proofs.Lists.{at_set, set_else, at_snoc, at_longer}}
 use Rattle.tick_model.{specs.declared.feed.Run.Run, specs.Clock.completed}
-use Rattle.snapshot_store.{specs.declared.board.View.View, specs.declared.board.Doing.Doing, specs.declared.board.Doing.TheVariants.{Rest, Looked, Reading, Writing}, specs.Lines.{below, count, limit, width, size, spot, line_of, IsWhole}, specs.Views.{Begins, informed, IsQuiet}, specs.Rule.{Stands, Stored, IsDoing, Knows, KeepsRule}, specs.Plays.{looks_first, looks_once, counts_rows, reads_word, looks_last, sets_clock, stores_word, finds_word, takes_turn, gives_turn}, proofs.Places.{place_unique, spot_high, spot_bound, spot_unique, begins_more, within_line, held_on, set_at}}
+use Rattle.snapshot_store.{specs.declared.board.StoreView.StoreView, specs.declared.board.Doing.Doing, specs.declared.board.Doing.TheVariants.{Rest, Looked, Reading, Writing}, specs.Lines.{below, count, limit, width, size, spot, line_of, IsWhole}, specs.Views.{Begins, informed, IsQuiet}, specs.Rule.{Stands, Stored, IsDoing, Knows, KeepsRule}, specs.Plays.{looks_first, looks_once, counts_rows, reads_word, looks_last, sets_clock, stores_word, finds_word, takes_turn, gives_turn}, proofs.Places.{place_unique, spot_high, spot_bound, spot_unique, begins_more, within_line, held_on, set_at}}
 
 abbrev Sat : Type 0
-Sat = Me (Unit {0}) View
+Sat = Me (Unit {0}) StoreView
 
 abbrev St : Type 0
-St = State (Unit {0}) View
+St = State (Unit {0}) StoreView
 
 module _ (run : Run) where
   abbrev Rule : St → Type 0
@@ -28,7 +28,7 @@ module _ (run : Run) where
   turn s = get_or s.words 1 0
 
   -- what a seat knows stays so while the clock grows, unless it is the writer or has the turn
-  knows_later : (c c' t holder writer writer' stored stored' j : ℕ) → c ≤ c' → (v : View) → Knows run c t holder writer stored j v → (v.turn ≡ true → c ≡ c')
+  knows_later : (c c' t holder writer writer' stored stored' j : ℕ) → c ≤ c' → (v : StoreView) → Knows run c t holder writer stored j v → (v.turn ≡ true → c ≡ c')
       → ((step k : ℕ) → v.doing ≡ Writing step k → j ≡ writer → (writer ≡ writer') × (c ≡ c') × (stored ≡ stored'))
       → Knows run c' t holder writer' stored' j v
   knows_later c c' t holder writer writer' stored stored' j le v k still same = let low = k.below_clock in record {
@@ -46,13 +46,13 @@ module _ (run : Run) where
       later (Reading p f read) h same = let b = h.1 in (h.0, omega arith, (λ has. h.2 has ∙ still has), h.3, h.4, λ l. h.5 (omega arith))
       later (Writing step k) h same = let e = same step k refl h.0 in (h.0 ∙ e.0, h.1 ∙ e.1, ap completed (sym e.1) ∙ h.2, h.3 ∙ e.2)
 
-  seats_stay : (K : ℕ → View → Type 0) (vs : List View) (me : ℕ) (w : View) → K me w → ((j : ℕ) (d : View) → j ≢ me → get_elem? vs j ≡ some d → K j d)
-      → (j : ℕ) (d : View) → get_elem? (set vs me w) j ≡ some d → K j d
-  seats_stay K vs me w mine others j d e = ⊎_elim (λ (t : (j ≡ me) × (w ≡ d)). subst (λ (x : ℕ × View). K x.0 x.1) (λ i. (sym t.0 i, t.1 i)) mine)
+  seats_stay : (K : ℕ → StoreView → Type 0) (vs : List StoreView) (me : ℕ) (w : StoreView) → K me w → ((j : ℕ) (d : StoreView) → j ≢ me → get_elem? vs j ≡ some d → K j d)
+      → (j : ℕ) (d : StoreView) → get_elem? (set vs me w) j ≡ some d → K j d
+  seats_stay K vs me w mine others j d e = ⊎_elim (λ (t : (j ≡ me) × (w ≡ d)). subst (λ (x : ℕ × StoreView). K x.0 x.1) (λ i. (sym t.0 i, t.1 i)) mine)
       (λ (t : (j ≢ me) × (get_elem? vs j ≡ some d)). others j d t.0 t.1) (at_set vs me j w d e)
 
   -- a step that changes no word
-  unmoved : (s : St) (r : Rule s) (i me : ℕ) (cs : List (ℕ × Unit {0})) (v w : View) → get_elem? s.views me ≡ some v → w.turn ≡ v.turn → Knows run (clock s) (turn s) r.holder r.writer r.stored me w → Rule (stepped s i (get_or s.words i 0) me cs w keeps)
+  unmoved : (s : St) (r : Rule s) (i me : ℕ) (cs : List (ℕ × Unit {0})) (v w : StoreView) → get_elem? s.views me ≡ some v → w.turn ≡ v.turn → Knows run (clock s) (turn s) r.holder r.writer r.stored me w → Rule (stepped s i (get_or s.words i 0) me cs w keeps)
   unmoved s r i me cs v w at same mine = subst (λ (ws : List ℕ). Rule record { words = ws; homes = s.homes; views = set s.views me w }) (sym (set-get_or s.words i 0)) record {
     holder = r.holder;
     writer = r.writer;
@@ -70,8 +70,8 @@ module _ (run : Run) where
 
   -- the first look of an attempt, or the one look of a caller that looks_once
   pub looks : (slots id : ℕ) (me : Sat) → Allows Rule slots id me 0 (λ n. n) (looks_first (step slots 0 0 0 none) me)
-  looks slots id me s r _ at _ = let v : View = me.0 in let c : ℕ = clock s in let k = r.each_seat id v at in
-      let w : View = record { run = v.run; looks = v.looks ++ c ∷ []; floor = c; turn = v.turn; refusals = v.refusals; doing = Looked c } in (
+  looks slots id me s r _ at _ = let v : StoreView = me.0 in let c : ℕ = clock s in let k = r.each_seat id v at in
+      let w : StoreView = record { run = v.run; looks = v.looks ++ c ∷ []; floor = c; turn = v.turn; refusals = v.refusals; doing = Looked c } in (
         w,
         keeps,
         tt,
@@ -81,8 +81,8 @@ module _ (run : Run) where
 
   -- the one look of a caller that was told of a step
   pub learns : (slots id : ℕ) (me : Sat) → Allows Rule slots id me 0 (λ n. n) (looks_once (step slots 0 0 0 none) me)
-  learns slots id me s r _ at _ = let v : View = me.0 in let c : ℕ = clock s in let k = r.each_seat id v at in
-      let w : View = record { run = v.run; looks = v.looks ++ c ∷ []; floor = c; turn = v.turn; refusals = v.refusals; doing = Rest } in (
+  learns slots id me s r _ at _ = let v : StoreView = me.0 in let c : ℕ = clock s in let k = r.each_seat id v at in
+      let w : StoreView = record { run = v.run; looks = v.looks ++ c ∷ []; floor = c; turn = v.turn; refusals = v.refusals; doing = Rest } in (
         w,
         keeps,
         tt,
@@ -102,12 +102,12 @@ module _ (run : Run) where
   -- the number of rows is read
   pub counts : (slots id : ℕ) (me : Sat) (f p word : ℕ) → me.0.run ≡ Some run → me.0.doing ≡ Looked f → p < count run → word ≡ spot run (completed f % 2) p 0
       → Allows Rule slots id me word (λ n. n) (counts_rows (step slots word 0 0 none) me)
-  counts slots id me f p word named is inside place s r _ at _ = let v : View = me.0 in let c : ℕ = clock s in let x : ℕ = get_or s.words word 0 in let k = r.each_seat id v at in
+  counts slots id me f p word named is inside place s r _ at _ = let v : StoreView = me.0 in let c : ℕ = clock s in let x : ℕ = get_or s.words word 0 in let k = r.each_seat id v at in
       let known : IsDoing run c r.writer r.stored id v.turn v.floor (Looked f) = subst (IsDoing run c r.writer r.stored id v.turn v.floor) is k.does in
       let b : completed f % 2 < 2 = omega arith in
       let has : x ≤ limit run p = subst (λ (z : ℕ). get_or s.words z 0 ≤ limit run p) (sym place) (r.counted (completed f % 2) p b inside) in
       let low = half_below f c known.0 known.1 in
-      let w : View = record { run = v.run; looks = v.looks; floor = v.floor; turn = v.turn; refusals = v.refusals; doing = Reading p f (x ∷ []) } in (
+      let w : StoreView = record { run = v.run; looks = v.looks; floor = v.floor; turn = v.turn; refusals = v.refusals; doing = Reading p f (x ∷ []) } in (
         w,
         keeps,
         tt,
@@ -153,10 +153,10 @@ module _ (run : Run) where
   -- a further word is read
   pub reads : (slots id : ℕ) (me : Sat) (f p word : ℕ) (read : List ℕ) → me.0.doing ≡ Reading p f read → word ≡ spot run (completed f % 2) p (length read) → 0 < length read → length read < 1 + get_or read 0 0 * (1 + width run p)
       → Allows Rule slots id me word (λ n. n) (reads_word (step slots word 0 0 none) me)
-  reads slots id me f p word read is place some_read less s r _ at _ = let v : View = me.0 in let c : ℕ = clock s in let x : ℕ = get_or s.words word 0 in let k = r.each_seat id v at in
+  reads slots id me f p word read is place some_read less s r _ at _ = let v : StoreView = me.0 in let c : ℕ = clock s in let x : ℕ = get_or s.words word 0 in let k = r.each_seat id v at in
       let known : IsDoing run c r.writer r.stored id v.turn v.floor (Reading p f read) = subst (IsDoing run c r.writer r.stored id v.turn v.floor) is k.does in
       let low = half_below f c known.0 known.1 in
-      let w : View = record { run = v.run; looks = v.looks; floor = v.floor; turn = v.turn; refusals = v.refusals; doing = Reading p f (read ++ x ∷ []) } in (
+      let w : StoreView = record { run = v.run; looks = v.looks; floor = v.floor; turn = v.turn; refusals = v.refusals; doing = Reading p f (read ++ x ∷ []) } in (
         w,
         keeps,
         tt,
@@ -181,8 +181,8 @@ module _ (run : Run) where
 
   -- the last look of an attempt
   pub looks_again : (slots id : ℕ) (me : Sat) → Allows Rule slots id me 0 (λ n. n) (looks_last (step slots 0 0 0 none) me)
-  looks_again slots id me s r _ at _ = let v : View = me.0 in let c : ℕ = clock s in let k = r.each_seat id v at in
-      let w : View = record { run = v.run; looks = v.looks ++ c ∷ []; floor = c; turn = v.turn; refusals = v.refusals; doing = Rest } in (
+  looks_again slots id me s r _ at _ = let v : StoreView = me.0 in let c : ℕ = clock s in let k = r.each_seat id v at in
+      let w : StoreView = record { run = v.run; looks = v.looks ++ c ∷ []; floor = c; turn = v.turn; refusals = v.refusals; doing = Rest } in (
         w,
         keeps,
         tt,
@@ -208,9 +208,9 @@ module _ (run : Run) where
       → ((c : ℕ) → new ≡ 2 * c + 1 → (p i : ℕ) → p < count run → i < length (line_of run c p) → below (λ q. length (line_of run c q)) p + i < k)
       → ((c p : ℕ) → new ≡ 2 * c + 1 → p < count run → IsWhole run c p)
       → Allows Rule slots id me 0 (λ _. new) (λ _. sets_clock (step slots 0 new 0 none) me new)
-  ticks slots id me step' k new is mine up whole shaped s r _ at _ = let v : View = me.0 in let c : ℕ = clock s in let kn = r.each_seat id v at in
+  ticks slots id me step' k new is mine up whole shaped s r _ at _ = let v : StoreView = me.0 in let c : ℕ = clock s in let kn = r.each_seat id v at in
       let known : IsDoing run c r.writer r.stored id v.turn v.floor (Writing step' k) = subst (IsDoing run c r.writer r.stored id v.turn v.floor) is kn.does in
-      let w : View = record { run = v.run; looks = v.looks; floor = new; turn = v.turn; refusals = v.refusals; doing = Writing (completed new) 0 } in
+      let w : StoreView = record { run = v.run; looks = v.looks; floor = new; turn = v.turn; refusals = v.refusals; doing = Writing (completed new) 0 } in
       let here = known.1 in let started = r.started in let wide = r.wide in
       let now : get_or (set s.words 0 new) 0 0 ≡ new = get_or-set_same s.words 0 new 0 (omega arith) in
       let one : get_or (set s.words 0 new) 1 0 ≡ turn s = get_or-set_other s.words 0 1 new 0 (λ e. omega arith) in (
@@ -235,7 +235,7 @@ module _ (run : Run) where
               stands_on s.words 0 new d p i (not_spot 0 (d % 2) p i (omega arith)) (full p i inside within enough));
           filled = λ d e p i inside within less. absurd (omega arith);
           counted = λ bank p lb lp. subst (λ (z : ℕ). z ≤ limit run p) (sym (get_or-set_other s.words 0 (spot run bank p 0) new 0 (λ e. not_spot 0 bank p 0 (omega arith) (sym e)))) (r.counted bank p lb lp);
-          each_seat = subst (λ (z : ℕ × ℕ). (j : ℕ) (d : View) → get_elem? (set s.views id w) j ≡ some d → Knows run z.0 z.1 r.holder r.writer 0 j d) (λ i. (sym now i, sym one i))
+          each_seat = subst (λ (z : ℕ × ℕ). (j : ℕ) (d : StoreView) → get_elem? (set s.views id w) j ≡ some d → Knows run z.0 z.1 r.holder r.writer 0 j d) (λ i. (sym now i, sym one i))
               (seats_stay (Knows run new (turn s) r.holder r.writer 0) s.views id w record { names = kn.names; below_clock = le_refl new; looks_below = (let grows : c ≤ new = omega arith in All-weaker (λ (l : ℕ). l ≤ c) (λ (l : ℕ). l ≤ new) (λ l h. omega arith) v.looks kn.looks_below); has_turn = kn.has_turn; does = (known.0, refl, refl, refl) }
               (λ j d other e. let kd = r.each_seat j d e in knows_later c new (turn s) r.holder r.writer r.writer r.stored 0 j (omega arith) d kd (λ has. absurd (other ((kd.has_turn has).1 ∙ sym (kn.has_turn mine).1)))
               (λ _ _ _ same. absurd (other (same ∙ sym known.0)))));
@@ -253,9 +253,9 @@ module _ (run : Run) where
   pub stores : (slots id : ℕ) (me : Sat) (done k p i word x : ℕ) → me.0.doing ≡ Writing done k → me.0.floor ≡ 2 * done + 2 → p < count run → i < length (line_of run (done + 1) p) → i < size run p
       → word ≡ spot run ((done + 1) % 2) p i → x ≡ get_or (line_of run (done + 1) p) i 0 → below (λ q. length (line_of run (done + 1) q)) p + i ≡ k → (i ≡ 0 → x ≤ limit run p)
       → Allows Rule slots id me word (λ _. x) (λ _. stores_word (step slots word x 0 none) me x)
-  stores slots id me done k p i word x is busy inside within sized place right next few s r _ at _ = let v : View = me.0 in let c : ℕ = clock s in let kn = r.each_seat id v at in
+  stores slots id me done k p i word x is busy inside within sized place right next few s r _ at _ = let v : StoreView = me.0 in let c : ℕ = clock s in let kn = r.each_seat id v at in
       let known : IsDoing run c r.writer r.stored id v.turn v.floor (Writing done k) = subst (IsDoing run c r.writer r.stored id v.turn v.floor) is kn.does in
-      let w : View = record { run = v.run; looks = v.looks; floor = v.floor; turn = v.turn; refusals = v.refusals; doing = Writing done (k + 1) } in
+      let w : StoreView = record { run = v.run; looks = v.looks; floor = v.floor; turn = v.turn; refusals = v.refusals; doing = Writing done (k + 1) } in
       let here = known.1 in let wide = r.wide in let kept = known.3 in
       let high = spot_high run ((done + 1) % 2) p i in
       let bank : (done + 1) % 2 < 2 = omega arith in
@@ -296,7 +296,7 @@ module _ (run : Run) where
               let val : get_or (set s.words word x) (spot run b p' 0) 0 ≡ x = ap (λ (z : ℕ). get_or (set s.words word x) z 0) e ∙ get_or-set_same s.words word x 0 (omega arith) in
               subst (λ (z : ℕ). z ≤ limit run p') (sym val) (subst (λ (z : ℕ). x ≤ limit run z) (sym u.1) (few (sym u.2))))
               (λ other. subst (λ (z : ℕ). z ≤ limit run p') (sym (get_or-set_other s.words word (spot run b p' 0) x 0 other)) (r.counted b p' lb lp));
-          each_seat = subst (λ (z : ℕ × ℕ). (j : ℕ) (d : View) → get_elem? (set s.views id w) j ≡ some d → Knows run z.0 z.1 r.holder r.writer (k + 1) j d) (λ i. (sym still i, sym one i))
+          each_seat = subst (λ (z : ℕ × ℕ). (j : ℕ) (d : StoreView) → get_elem? (set s.views id w) j ≡ some d → Knows run z.0 z.1 r.holder r.writer (k + 1) j d) (λ i. (sym still i, sym one i))
               (seats_stay (Knows run c (turn s) r.holder r.writer (k + 1)) s.views id w record { names = kn.names; below_clock = kn.below_clock; looks_below = kn.looks_below; has_turn = kn.has_turn; does = (known.0, known.1, known.2, refl) }
               (λ j d other e. knows_later c c (turn s) r.holder r.writer r.writer r.stored (k + 1) j (le_refl c) d (r.each_seat j d e) (λ _. refl) (λ _ _ _ same. absurd (other (same ∙ sym known.0)))));
         },
@@ -307,7 +307,7 @@ module _ (run : Run) where
   pub finds : (slots id : ℕ) (me : Sat) (done k p i word : ℕ) → me.0.doing ≡ Writing done k → me.0.floor ≡ 2 * done + 2 → p < count run → i < length (line_of run (done + 1) p) → i < size run p
       → word ≡ spot run ((done + 1) % 2) p i → below (λ q. length (line_of run (done + 1) q)) p + i ≡ k → (i ≡ 0 → get_or (line_of run (done + 1) p) i 0 ≤ limit run p)
       → Allows Rule slots id me word (λ n. n) (finds_word (step slots word 0 0 none) me)
-  finds slots id me done k p i word is busy inside within sized place next few s r h at small = let v : View = me.0 in let x : ℕ = get_or (line_of run (done + 1) p) i 0 in let kn = r.each_seat id v at in
+  finds slots id me done k p i word is busy inside within sized place next few s r h at small = let v : StoreView = me.0 in let x : ℕ = get_or (line_of run (done + 1) p) i 0 in let kn = r.each_seat id v at in
       let only : (run' : Run) (done' k' p' i' : ℕ) → v.run ≡ Some run' → v.doing ≡ Writing done' k' → i' < length (line_of run' (done' + 1) p') → below (λ q. length (line_of run' (done' + 1) q)) p' + i' ≡ k' → get_or (line_of run' (done' + 1) p') i' 0 ≡ x =
       λ run' done' k' p' i' named is' within' next'. let er = kn.names run' named in let e = ap writer_parts (sym is ∙ is') in
       let there : (i' < length (line_of run (done + 1) p')) × (below (λ q. length (line_of run (done + 1) q)) p' + i' ≡ k) =
@@ -330,8 +330,8 @@ module _ (run : Run) where
         (refl, (refl, refl, refl, refl, refl), λ run' done' k' p' i' named is' within' next'. ((λ found. absurd (other (found ∙ only run' done' k' p' i' named is' within' next'))), λ _. refl)),
       ))
 
-  pub parts : (id : ℕ) (v : View) → Splits Rule id v v (informed v.run v.floor)
-  parts id v s r at = let k = r.each_seat id v at in let K = Knows run (clock s) (turn s) r.holder r.writer r.stored in let new : View = informed v.run v.floor in record {
+  pub parts : (id : ℕ) (v : StoreView) → Splits Rule id v v (informed v.run v.floor)
+  parts id v s r at = let k = r.each_seat id v at in let K = Knows run (clock s) (turn s) r.holder r.writer r.stored in let new : StoreView = informed v.run v.floor in record {
     holder = r.holder;
     writer = r.writer;
     stored = r.stored;
@@ -353,9 +353,9 @@ module _ (run : Run) where
   meets_doing c writer stored j a b la lb has (Reading p f read) h = h
   meets_doing c writer stored j a b la lb has (Writing step k) h = let e = h.1 in (h.0, omega arith, h.2, h.3)
 
-  pub meets : (id : ℕ) (v : View) (other : ℕ) (w : View) → w.turn ≡ false → Joins Rule id v other w record { run = v.run; looks = v.looks; floor = max v.floor w.floor; turn = v.turn; refusals = v.refusals; doing = v.doing } (informed None 0)
+  pub meets : (id : ℕ) (v : StoreView) (other : ℕ) (w : StoreView) → w.turn ≡ false → Joins Rule id v other w record { run = v.run; looks = v.looks; floor = max v.floor w.floor; turn = v.turn; refusals = v.refusals; doing = v.doing } (informed None 0)
   meets id v other w free s r at apart there = let c : ℕ = clock s in let k = r.each_seat id v at in let K = Knows run c (turn s) r.holder r.writer r.stored in
-      let both : View = record { run = v.run; looks = v.looks; floor = max v.floor w.floor; turn = v.turn; refusals = v.refusals; doing = v.doing } in
+      let both : StoreView = record { run = v.run; looks = v.looks; floor = max v.floor w.floor; turn = v.turn; refusals = v.refusals; doing = v.doing } in
       let kw = r.each_seat other w (sym (set_else s.views id other both apart) ∙ there) in
       let a = k.below_clock in let b = kw.below_clock in record {
         holder = r.holder;
@@ -380,8 +380,8 @@ module _ (run : Run) where
   quietly c writer stored j floor has has' (Writing step k) q h = h
 
   -- word 1 is set to x
-  turned : (s : St) (r : Rule s) (x holder me : ℕ) (cs : List (ℕ × Unit {0})) (w : View) → x < 2 → (x ≡ 1 → (v : View) × (get_elem? (set s.views me w) holder ≡ some v) × (v.turn ≡ true)) → Knows run (clock s) x holder r.writer r.stored me w
-      → ((j : ℕ) (d : View) → j ≢ me → get_elem? s.views j ≡ some d → Knows run (clock s) x holder r.writer r.stored j d) → Rule (stepped s 1 x me cs w keeps)
+  turned : (s : St) (r : Rule s) (x holder me : ℕ) (cs : List (ℕ × Unit {0})) (w : StoreView) → x < 2 → (x ≡ 1 → (v : StoreView) × (get_elem? (set s.views me w) holder ≡ some v) × (v.turn ≡ true)) → Knows run (clock s) x holder r.writer r.stored me w
+      → ((j : ℕ) (d : StoreView) → j ≢ me → get_elem? s.views j ≡ some d → Knows run (clock s) x holder r.writer r.stored j d) → Rule (stepped s 1 x me cs w keeps)
   turned s r x holder me cs w small held mine others = let wide = r.wide in
       let still : get_or (set s.words 1 x) 0 0 ≡ clock s = get_or-set_other s.words 1 0 x 0 (λ e. omega arith) in
       let one : get_or (set s.words 1 x) 1 0 ≡ x = get_or-set_same s.words 1 x 0 (omega arith) in record {
@@ -396,14 +396,14 @@ module _ (run : Run) where
         live = λ d lo hi p i inside within. stands_on s.words 1 x d p i (not_spot 1 (d % 2) p i (omega arith)) (r.live d (omega arith) (omega arith) p i inside within);
         filled = λ d e p i inside within less. stands_on s.words 1 x (d + 1) p i (not_spot 1 ((d + 1) % 2) p i (omega arith)) (r.filled d (sym still ∙ e) p i inside within less);
         counted = λ bank p lb lp. subst (λ (z : ℕ). z ≤ limit run p) (sym (get_or-set_other s.words 1 (spot run bank p 0) x 0 (λ e. not_spot 1 bank p 0 (omega arith) (sym e)))) (r.counted bank p lb lp);
-        each_seat = subst (λ (z : ℕ × ℕ). (j : ℕ) (d : View) → get_elem? (set s.views me w) j ≡ some d → Knows run z.0 z.1 holder r.writer r.stored j d) (λ i. (sym still i, sym one i))
+        each_seat = subst (λ (z : ℕ × ℕ). (j : ℕ) (d : StoreView) → get_elem? (set s.views me w) j ≡ some d → Knows run z.0 z.1 holder r.writer r.stored j d) (λ i. (sym still i, sym one i))
             (seats_stay (Knows run (clock s) x holder r.writer r.stored) s.views me w mine others);
       }
 
   -- the turn is asked for
   pub takes : (slots id : ℕ) (me : Sat) → IsQuiet me.0.doing → Allows Rule slots id me 1 (λ n. either (eqb n 0) 1 n) (takes_turn (step slots 1 0 1 none) me)
-  takes slots id me quiet s r _ at _ = let v : View = me.0 in let k = r.each_seat id v at in dite (ℕ_discrete (turn s) 0)
-      (λ free. let w : View = record { run = v.run; looks = v.looks; floor = v.floor; turn = true; refusals = v.refusals; doing = v.doing } in (
+  takes slots id me quiet s r _ at _ = let v : StoreView = me.0 in let k = r.each_seat id v at in dite (ℕ_discrete (turn s) 0)
+      (λ free. let w : StoreView = record { run = v.run; looks = v.looks; floor = v.floor; turn = true; refusals = v.refusals; doing = v.doing } in (
         w,
         keeps,
         tt,
@@ -412,7 +412,7 @@ module _ (run : Run) where
             (λ j d other e. let kd = r.each_seat j d e in record { names = kd.names; below_clock = kd.below_clock; looks_below = kd.looks_below; has_turn = λ has. let t = (kd.has_turn has).0 in absurd (omega arith); does = kd.does })),
         (refl, (refl, refl, refl, refl), (λ _. refl), λ not. absurd (not free)),
       ))
-      (λ busy. let w : View = record { run = v.run; looks = v.looks; floor = v.floor; turn = v.turn; refusals = v.refusals + 1; doing = v.doing } in (
+      (λ busy. let w : StoreView = record { run = v.run; looks = v.looks; floor = v.floor; turn = v.turn; refusals = v.refusals + 1; doing = v.doing } in (
         w,
         keeps,
         tt,
@@ -423,8 +423,8 @@ module _ (run : Run) where
 
   -- the turn is given back
   pub gives : (slots id : ℕ) (me : Sat) → IsQuiet me.0.doing → me.0.turn ≡ true → Allows Rule slots id me 1 (λ _. 0) (λ _. gives_turn (step slots 1 0 0 none) me 0)
-  gives slots id me quiet mine s r _ at _ = let v : View = me.0 in let k = r.each_seat id v at in
-      let w : View = record { run = v.run; looks = v.looks; floor = v.floor; turn = false; refusals = v.refusals; doing = v.doing } in (
+  gives slots id me quiet mine s r _ at _ = let v : StoreView = me.0 in let k = r.each_seat id v at in
+      let w : StoreView = record { run = v.run; looks = v.looks; floor = v.floor; turn = false; refusals = v.refusals; doing = v.doing } in (
         w,
         keeps,
         tt,

@@ -6,7 +6,7 @@ use native.Mathlib.Decide.{ℕ_discrete, dec_le}
 use lib.ListN.{get_elem?}
 use Rattle.atomic_table.specs.Table.{opening}
 use Rattle.tick_model.{specs.declared.feed.Run.Run, specs.declared.table.PlainTable.PlainTable, specs.Tables.no_table, specs.LawfulRuns.IsLawfulRun, specs.Words.words, specs.Clock.completed}
-use Rattle.snapshot_store.{specs.declared.board.View.View, specs.Lines.{count, limit, size, total, spot, line_of, IsWhole}, specs.Rule.{Stands, Holds, Knows, KeepsRule}, specs.Views.first_view, specs.Opening.{IsLaying, AreOpening, AreFirst}, proofs.Places.{spot_high, spot_bound, spot_unique}, proofs.Calls.{spot_from, line_fits}, proofs.Published.{line_named, line_rows, line_whole, opening_keeps}}
+use Rattle.snapshot_store.{specs.declared.board.StoreView.StoreView, specs.Lines.{count, limit, size, total, spot, line_of, IsWhole}, specs.Rule.{Stands, Holds, Knows, KeepsRule}, specs.Views.first_view, specs.Opening.{IsLaying, AreOpening, AreFirst}, proofs.Places.{spot_high, spot_bound, spot_unique}, proofs.Calls.{spot_from, line_fits}, proofs.Published.{line_named, line_rows, line_whole, opening_keeps}}
 use Rattle.std.{specs.Prelude.map, specs.Arc.arc_value, specs.declared.alloc.Global.Global, specs.declared.sync.Arc.Arc, proofs.lemmas.List.get_or-map}
 use Rattle.key_lists.proofs.Parts.{take_front}
 use Rattle.tick_table.specs.Ticking.{Ticking}
@@ -93,7 +93,7 @@ opens run words o = let clock = o.clock in record {
   each_seat = seats;
 }
   where
-    seats : (j : ℕ) (v : View) → get_elem? (first_view run ∷ []) j ≡ some v → Knows run (get_or words 0 0) (get_or words 1 0) 0 0 0 j v
+    seats : (j : ℕ) (v : StoreView) → get_elem? (first_view run ∷ []) j ≡ some v → Knows run (get_or words 0 0) (get_or words 1 0) 0 0 0 j v
     seats zero v e = subst (Knows run (get_or words 0 0) (get_or words 1 0) 0 0 0 0) (some-injective (first_view run) v e) record {
       names = λ r named. cc;
       below_clock = omega arith;

@@ -4,7 +4,7 @@ use mathlib.Core.Logic.{dite}
 use mathlib.Core.Option.{some, some-injective, some-ne-none}
 use lib.ListN.{get_elem?}
 use Rattle.atomic_table.proofs.Lists.{set_else}
-use Rattle.snapshot_store.{specs.declared.board.View.View, specs.Lines.{below, count, width, size, total, spot, line_of, IsWhole}, specs.Views.Begins}
+use Rattle.snapshot_store.{specs.declared.board.StoreView.StoreView, specs.Lines.{below, count, width, size, total, spot, line_of, IsWhole}, specs.Views.Begins}
 use native.Mathlib.Decide.{ℕ_discrete, dec_le}
 use Rattle.tick_model.specs.declared.feed.Run.{Run}
 use Rattle.std.{proofs.Math.Seq.get_or-append_right, proofs.Math.ListN.get_or-append}
@@ -74,8 +74,8 @@ module _ {A : Type 0} where
   set_at (x ∷ xs) (suc i) a b e = set_at xs i a b e
 
 -- who had the turn has it still, where a seat keeps its own
-pub held_on : (vs : List View) (holder me : ℕ) (v w : View) → get_elem? vs me ≡ some v → w.turn ≡ v.turn → (x : View) × (get_elem? vs holder ≡ some x) × (x.turn ≡ true)
-    → (x : View) × (get_elem? (set vs me w) holder ≡ some x) × (x.turn ≡ true)
+pub held_on : (vs : List StoreView) (holder me : ℕ) (v w : StoreView) → get_elem? vs me ≡ some v → w.turn ≡ v.turn → (x : StoreView) × (get_elem? vs holder ≡ some x) × (x.turn ≡ true)
+    → (x : StoreView) × (get_elem? (set vs me w) holder ≡ some x) × (x.turn ≡ true)
 held_on vs holder me v w at same h = dite (ℕ_discrete holder me)
     (λ e. let here : get_elem? vs holder ≡ some v = subst (λ (k : ℕ). get_elem? vs k ≡ some v) (sym e) at in
     let is : h.0 ≡ v = some-injective h.0 v (sym h.1 ∙ here) in (w, subst (λ (k : ℕ). get_elem? (set vs me w) k ≡ some w) (sym e) (set_at vs me v w at), same ∙ (ap (λ z. z.turn) (sym is) ∙ h.2)))

@@ -2,7 +2,7 @@
 use Rattle.std.specs.Prelude.{◌≡◌, ℕ, ◌+◌, ◌*◌, ◌^◌, ◌<◌, ◌≤◌, List, [], length, true, false, slice_index, Option, Some}
 use Rattle.atomic_table.{specs.Seated.TableId, specs.declared.shared.Seat.Seat}
 use Rattle.tick_model.{specs.Clock.{idle, updating, completed}, specs.LawfulRuns.IsLawfulRun, specs.declared.feed.Run.Run, specs.declared.plan.Published.Published}
-use Rattle.snapshot_store.{specs.declared.board.View.View, specs.declared.board.Doing.TheVariants.{Rest, Writing}, specs.declared.writers.Phase.Phase, specs.declared.writers.Phase.TheVariants.{Idle, Begun, Stopped, Left}, specs.Lines.{below, count, size, size_in, start_in, total, total_in, line_of, IsWhole}, specs.Looks.{NeverFalls, last_or}}
+use Rattle.snapshot_store.{specs.declared.board.StoreView.StoreView, specs.declared.board.Doing.TheVariants.{Rest, Writing}, specs.declared.writers.Phase.Phase, specs.declared.writers.Phase.TheVariants.{Idle, Begun, Stopped, Left}, specs.Lines.{below, count, size, size_in, start_in, total, total_in, line_of, IsWhole}, specs.Looks.{NeverFalls, last_or}}
 
 -- which table of words, and whose run
 pub record StoreModel : Type 0 where
@@ -43,7 +43,7 @@ pub record IsLaid (tables : List Published) (starts : List ℕ) (bank largest : 
   pub most : (p : ℕ) → p < length tables → size_in tables p ≤ largest
 
 abbrev pub Place : Type 0
-Place = Seat (Unit {0}) View
+Place = Seat (Unit {0}) StoreView
 
 -- the words are as many as the run needs, and the run is lawful
 pub record IsStore (table : TableId) (run : Run) (layout : List Published) : Type 0 where
@@ -53,7 +53,7 @@ pub record IsStore (table : TableId) (run : Run) (layout : List Published) : Typ
   pub lawful : IsLawfulRun run
 
 -- a buffer has room for each published table
-abbrev pub HasRoom : View → ℕ → Type 0
+abbrev pub HasRoom : StoreView → ℕ → Type 0
 HasRoom view capacity = (run : Run) (p : ℕ) → view.run ≡ Some run → p < count run → size run p ≤ capacity
 
 -- a caller does nothing between calls, and `seen` is its last look, or 1
@@ -72,10 +72,10 @@ abbrev pub words_of : Run → ℕ → ℕ → ℕ
 words_of run step p = below (λ q. length (line_of run step q)) p
 
 -- The clock is the writer's floor. It has the turn from `begin` to `finish` or `abandon`, and the tables that were put since are whole rows
-abbrev pub IsPut : View → ℕ → ℕ → Type 0
+abbrev pub IsPut : StoreView → ℕ → ℕ → Type 0
 IsPut view step tables = (run : Run) × (view.run ≡ Some run) × (view.doing ≡ Writing step (words_of run (step + 1) tables)) × ((p : ℕ) → p < tables → IsWhole run (step + 1) p)
 
-abbrev pub IsAt : View → ℕ → Phase → Type 0
+abbrev pub IsAt : StoreView → ℕ → Phase → Type 0
 IsAt view step Idle = (view.floor ≡ idle step) × (view.turn ≡ false) × (view.doing ≡ Writing step 0)
 IsAt view step (Begun tables) = (view.floor ≡ updating (step + 1)) × (view.turn ≡ true) × (step + 1 < 2 ^ 62) × IsPut view step tables
 IsAt view step Stopped = (view.floor ≡ updating (step + 1)) × (view.turn ≡ true) × ((stored : ℕ) × (view.doing ≡ Writing step stored))

@@ -2,11 +2,11 @@
 use Rattle.std.specs.Prelude.{◌≡◌, ◌≢◌, ℕ, ◌+◌, ◌*◌, ◌%◌, ◌<◌, ◌≤◌, List, [], ◌∷◌, ◌++◌, length, true, false, slice_index, Some}
 use Rattle.atomic_table.specs.Table.{Me, State, Step}
 use Rattle.tick_model.{specs.Clock.completed, specs.declared.feed.Run.Run}
-use Rattle.snapshot_store.{specs.declared.board.View.View, specs.declared.board.Doing.TheVariants.{Rest, Looked, Reading, Writing}, specs.Lines.{below, count, limit, spot, line_of, IsWhole}, specs.Rule.KeepsRule, specs.Views.{IsLook, IsTick, IsSameSight, IsSameBut, Begins}}
+use Rattle.snapshot_store.{specs.declared.board.StoreView.StoreView, specs.declared.board.Doing.TheVariants.{Rest, Looked, Reading, Writing}, specs.Lines.{below, count, limit, spot, line_of, IsWhole}, specs.Rule.KeepsRule, specs.Views.{IsLook, IsTick, IsSameSight, IsSameBut, Begins}}
 
 -- what a step tells: of the step, the seat before it, the word that it found, and the seat after it
 abbrev pub Plays : Type 1
-Plays = Step (Unit {0}) → Me (Unit {0}) View → ℕ → Me (Unit {0}) View → Type 0
+Plays = Step (Unit {0}) → Me (Unit {0}) StoreView → ℕ → Me (Unit {0}) StoreView → Type 0
 
 -- the first look of a reading
 abbrev pub looks_first : Plays
@@ -15,7 +15,7 @@ looks_first st me found me' = (me'.1 ≡ me.1) × IsLook me.0 found me'.0 × (me
 -- a look of its own, at words that the rule holds of
 abbrev pub looks_once : Plays
 looks_once st me found me' = (me'.1 ≡ me.1) × IsLook me.0 found me'.0 × (me'.0.doing ≡ Rest)
-    × ((run : Run) → me.0.run ≡ Some run → (board : State (Unit {0}) View) × KeepsRule run board × (slice_index board.words 0 ≡ found))
+    × ((run : Run) → me.0.run ≡ Some run → (board : State (Unit {0}) StoreView) × KeepsRule run board × (slice_index board.words 0 ≡ found))
 
 -- the count of rows of a table is read
 abbrev pub counts_rows : Plays

@@ -10,7 +10,7 @@ use mathlib.Core.Option.{some}
 use lib.ListN.{get_elem?}
 use Rattle.atomic_table.specs.Table.{State}
 use Rattle.tick_model.{specs.Clock.completed, specs.declared.feed.Run.Run}
-use Rattle.snapshot_store.{specs.declared.board.View.View, specs.declared.board.Doing.Doing, specs.declared.board.Doing.TheVariants.{Rest, Looked, Reading, Writing}, specs.Lines.{below, count, limit, width, size, total, spot, line_of, IsWhole}, specs.Views.Begins}
+use Rattle.snapshot_store.{specs.declared.board.StoreView.StoreView, specs.declared.board.Doing.Doing, specs.declared.board.Doing.TheVariants.{Rest, Looked, Reading, Writing}, specs.Lines.{below, count, limit, width, size, total, spot, line_of, IsWhole}, specs.Views.Begins}
 
 module _ (run : Run) (words : List ℕ) where
   abbrev pub Stands : ℕ → ℕ → ℕ → Type 0
@@ -33,21 +33,21 @@ module _ (run : Run) (clock writer stored seat : ℕ) where
   IsDoing has floor (Writing step so_far) = (seat ≡ writer) × (floor ≡ clock) × (completed clock ≡ step) × (so_far ≡ stored)
 
 -- the seat `holder` may have the turn, and the seat `writer` may write
-pub record Knows (run : Run) (clock turn holder writer stored seat : ℕ) (view : View) : Type 0 where
+pub record Knows (run : Run) (clock turn holder writer stored seat : ℕ) (view : StoreView) : Type 0 where
   pub names : (named : Run) → view.run ≡ Some named → named ≡ run
   pub below_clock : view.floor ≤ clock
   pub looks_below : All (λ look. look ≤ clock) view.looks
   pub has_turn : view.turn ≡ true → (turn ≡ 1) × (seat ≡ holder)
   pub does : IsDoing run clock writer stored seat view.turn view.floor view.doing
 
-pub record KeepsRule (run : Run) (state : State (Unit {0}) View) : Type 0 where
+pub record KeepsRule (run : Run) (state : State (Unit {0}) StoreView) : Type 0 where
   pub holder : ℕ
   pub writer : ℕ
   pub stored : ℕ
   pub wide : length state.words ≡ 2 + 2 * total run
   pub bit : slice_index state.words 1 < 2
   -- where word 1 is 1, a seat has the turn
-  pub held : slice_index state.words 1 ≡ 1 → (view : View) × (get_elem? state.views holder ≡ some view) × (view.turn ≡ true)
+  pub held : slice_index state.words 1 ≡ 1 → (view : StoreView) × (get_elem? state.views holder ≡ some view) × (view.turn ≡ true)
   pub started : 0 < slice_index state.words 0
   -- while the clock is near, the bank of a completed step holds it, and its lines are whole rows
   pub live : (step : ℕ) → 2 * step + 1 ≤ slice_index state.words 0 → slice_index state.words 0 < 2 * step + 4 → Holds run state.words step
@@ -56,4 +56,4 @@ pub record KeepsRule (run : Run) (state : State (Unit {0}) View) : Type 0 where
   pub filled : (step : ℕ) → slice_index state.words 0 ≡ 2 * step + 2 → Stored run state.words (step + 1) stored
   -- a count of rows is within its limit, in either bank
   pub counted : (bank p : ℕ) → bank < 2 → p < count run → slice_index state.words (spot run bank p 0) ≤ limit run p
-  pub each_seat : (seat : ℕ) (view : View) → get_elem? state.views seat ≡ some view → Knows run (slice_index state.words 0) (slice_index state.words 1) holder writer stored seat view
+  pub each_seat : (seat : ℕ) (view : StoreView) → get_elem? state.views seat ≡ some view → Knows run (slice_index state.words 0) (slice_index state.words 1) holder writer stored seat view

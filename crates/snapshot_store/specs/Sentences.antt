@@ -4,11 +4,11 @@ use mathlib.Core.Option.{some}
 use lib.ListN.{get_elem?}
 use Rattle.atomic_table.specs.Table.{State}
 use Rattle.tick_model.{specs.Clock.{idle, updating, completed}, specs.declared.feed.Run.Run}
-use Rattle.snapshot_store.{specs.declared.board.View.View, specs.declared.board.Doing.TheVariants.{Looked, Reading, Writing}, specs.declared.writers.Phase.Phase, specs.declared.writers.Phase.TheVariants.{Idle, Begun, Stopped}, specs.Lines.{count, limit, width, spot, line_of}, specs.Models.IsAt, specs.Rule.{Holds, Stored}, specs.Views.Begins}
+use Rattle.snapshot_store.{specs.declared.board.StoreView.StoreView, specs.declared.board.Doing.TheVariants.{Looked, Reading, Writing}, specs.declared.writers.Phase.Phase, specs.declared.writers.Phase.TheVariants.{Idle, Begun, Stopped}, specs.Lines.{count, limit, width, spot, line_of}, specs.Models.IsAt, specs.Rule.{Holds, Stored}, specs.Views.Begins}
 
 -- the words and the views
 abbrev pub Board : Type 0
-Board = State (Unit {0}) View
+Board = State (Unit {0}) StoreView
 
 abbrev pub clock : Board → ℕ
 clock board = slice_index board.words 0
@@ -17,8 +17,8 @@ abbrev pub turn : Board → ℕ
 turn board = slice_index board.words 1
 
 -- what holds of the view of each seat
-abbrev pub OfEach : Board → (View → Type 0) → Type 0
-OfEach board P = (seat : ℕ) (view : View) → get_elem? board.views seat ≡ some view → P view
+abbrev pub OfEach : Board → (StoreView → Type 0) → Type 0
+OfEach board P = (seat : ℕ) (view : StoreView) → get_elem? board.views seat ≡ some view → P view
 
 -- the clock is at least every look and every floor, and it is the floor of the writer
 abbrev pub IsPastLooks : Board → Type 0
@@ -38,7 +38,7 @@ IsUnderWay Stopped = Unit {0}
 IsUnderWay phase = ⊥
 
 -- what holds of the view of a writer, after whatever call
-abbrev pub OfWriter : Board → (View → ℕ → Phase → Type 0) → Type 0
+abbrev pub OfWriter : Board → (StoreView → ℕ → Phase → Type 0) → Type 0
 OfWriter board P = OfEach board (λ view. (step : ℕ) (phase : Phase) → IsAt view step phase → P view step phase)
 
 abbrev pub IsClockOfWriter : Board → Type 0
@@ -65,8 +65,8 @@ KeepsLimits run board = (bank p : ℕ) → bank < 2 → p < count run → slice_
 
 -- a seat has the turn exactly where word 1 is 1, and no two have it
 abbrev pub HasOneTurn : Board → Type 0
-HasOneTurn board = (turn board ≡ 1 → (seat : ℕ) × (view : View) × (get_elem? board.views seat ≡ some view) × (view.turn ≡ true))
-    × ((i j : ℕ) (v w : View) → get_elem? board.views i ≡ some v → get_elem? board.views j ≡ some w → v.turn ≡ true → w.turn ≡ true → (turn board ≡ 1) × (i ≡ j))
+HasOneTurn board = (turn board ≡ 1 → (seat : ℕ) × (view : StoreView) × (get_elem? board.views seat ≡ some view) × (view.turn ≡ true))
+    × ((i j : ℕ) (v w : StoreView) → get_elem? board.views i ≡ some v → get_elem? board.views j ≡ some w → v.turn ≡ true → w.turn ≡ true → (turn board ≡ 1) × (i ≡ j))
 
 -- the writer has the turn while a step is under way
 abbrev pub IsTurnOfWriter : Board → Type 0

@@ -31,7 +31,7 @@ pub enum Doing {
 }
 
 /// What a seat knows. No value of it is made.
-pub struct View {
+pub struct StoreView {
     /// The run of the store, or none where the seat was joined to another.
     pub run: Option<Run>,
     /// The clock values that it has looked at, in order.
@@ -46,7 +46,7 @@ pub struct View {
 }
 
 /// The words, of the run that is their key.
-pub(crate) type Board = Table<(), View, Snapshot<Run>, BankRule, Global>;
+pub(crate) type Board = Table<(), StoreView, Snapshot<Run>, BankRule, Global>;
 
 /// A seat at the words, which has no bytes.
-pub(crate) type Place = Seat<(), View>;
+pub(crate) type BoardSeat = Seat<(), StoreView>;

@@ -11,7 +11,7 @@ ghost use Rattle.snapshot_store.specs.Views.{IsSameSight};
 ghost use Rattle.snapshot_store.specs.declared.board.Doing.TheVariants.{Reading};
 
 use crate::answers::{Attempt, Taken};
-use crate::board::Place;
+use crate::board::BoardSeat;
 use crate::plays::{CountRows, LookFirst, LookLast, ReadWord};
 use crate::store::Store;
 use logical_clock::ClockValue;
@@ -26,7 +26,7 @@ const NEAR: u64 = 4;
 /// often it has asked for the turn while another had it.
 #[derive(Drop)]
 pub struct Caller {
-    pub(crate) place: Place,
+    pub(crate) place: BoardSeat,
     pub(crate) words: Vec<u64>,
     /// The last look, or 1 before the first.
     pub(crate) seen: u64,
@@ -70,7 +70,7 @@ impl Store {
     // Reads the words of a table from the second one on, until there are `end`.
     fn read_rows(
         &self,
-        place: &mut Place,
+        place: &mut BoardSeat,
         words: &mut Vec<u64>,
         number: u32,
         first: u64,
@@ -96,7 +96,7 @@ impl Store {
     }
 
     // Reads a table in the bank of the step that is completed at the first look. The first look and the last.
-    fn read(&self, place: &mut Place, words: &mut Vec<u64>, number: u32) -> (u64, u64)
+    fn read(&self, place: &mut BoardSeat, words: &mut Vec<u64>, number: u32) -> (u64, u64)
         requires own { IsOf self.now place.old.table_id place.old.me.0.run }
         requires number { number < count self.now.run }
         requires room { size self.now.run number ≤ vec_capacity words.old }

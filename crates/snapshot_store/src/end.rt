@@ -5,16 +5,16 @@ ghost use Rattle.snapshot_store.specs.Looks.{last_or, latest};
 ghost use Rattle.snapshot_store.specs.Models.{IsOf, IsSamePlace};
 
 use crate::answers::Ended;
-use crate::board::Place;
+use crate::board::BoardSeat;
 use crate::callers::Caller;
-use crate::plays::Parting;
+use crate::plays::StoreSplit;
 use crate::store::Store;
 use crate::writers::Writer;
 use tick_model::items::Items;
 
 impl Store {
     // Takes in what the callers have seen.
-    fn gather(&self, place: &mut Place, callers: Items<Caller>)
+    fn gather(&self, place: &mut BoardSeat, callers: Items<Caller>)
         requires own { place.old.table_id ≡ self.now.table }
         requires callers { All (λ caller. IsOf self.now caller.table caller.run) callers }
         ensures place { IsSamePlace place.old place.new × (place.new.me.0.doing ≡ place.old.me.0.doing) }
@@ -27,7 +27,7 @@ impl Store {
                 words: _,
                 seen: _,
             } = caller;
-            self.board.shared.join_seat::<Parting>(place, other);
+            self.board.shared.join_seat::<StoreSplit>(place, other);
         }
     }
 

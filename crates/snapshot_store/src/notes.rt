@@ -7,9 +7,9 @@ ghost use Rattle.snapshot_store.specs.Looks.{NeverFalls, last_or, latest};
 ghost use Rattle.snapshot_store.specs.Models.{IsOf};
 ghost use Rattle.snapshot_store.specs.Sentences.{Board, clock};
 
-use crate::board::{Place, View};
+use crate::board::{BoardSeat, StoreView};
 use crate::callers::Caller;
-use crate::plays::{BankRule, LookOnce, Parting};
+use crate::plays::{BankRule, LookOnce, StoreSplit};
 use crate::store::Store;
 use crate::writers::Writer;
 use atomic_table::TableRule;
@@ -20,7 +20,7 @@ use tick_model::feed::Run;
 /// That a step is completed, to be told to a caller.
 #[derive(Drop)]
 pub struct Note {
-    place: Place,
+    place: BoardSeat,
     step: u64,
 }
 
@@ -56,7 +56,10 @@ impl Store {
         ensures own { IsOf self.now result.table result.run }
         ensures step { result.step ≡ writer.old.step }
     {
-        let place = self.board.shared.split_seat::<Parting>(&mut writer.place);
+        let place = self
+            .board
+            .shared
+            .split_seat::<StoreSplit>(&mut writer.place);
         Note {
             place,
             step: writer.step,
@@ -72,12 +75,12 @@ impl Store {
         ensures look { (found : ℕ) × (caller.new.looks ≡ caller.old.looks ++ found ∷ []) }
         ensures rises { NeverFalls 1 caller.new.looks }
         ensures told { note.step ≤ latest caller.new.looks }
-        ensures met { (key : Snapshot Run) × (board : Board) × (key.value ≡ self.now.run) × ⟦<BankRule as TableRule<(), View, Snapshot<Run>>>⟧.holds key board × (last_or 1 caller.new.looks ≡ clock board) }
+        ensures met { (key : Snapshot Run) × (board : Board) × (key.value ≡ self.now.run) × ⟦<BankRule as TableRule<(), StoreView, Snapshot<Run>>>⟧.holds key board × (last_or 1 caller.new.looks ≡ clock board) }
     {
         let Note { place, step: _ } = note;
         self.board
             .shared
-            .join_seat::<Parting>(&mut caller.place, place);
+            .join_seat::<StoreSplit>(&mut caller.place, place);
         caller.seen = self.board.shared.load::<LookOnce>(&mut caller.place, 0);
     }
 }

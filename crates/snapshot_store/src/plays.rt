@@ -1,6 +1,6 @@
 //! The rule of the words, and what each step on a word tells. These types have no values: they are for proofs alone.
 
-use crate::board::View;
+use crate::board::StoreView;
 use atomic_table::{Join, Play, Split, TableRule};
 use std::snapshot::Snapshot;
 use tick_model::feed::Run;
@@ -8,7 +8,7 @@ use tick_model::feed::Run;
 /// The rule that the words keep.
 pub struct BankRule;
 
-impl TableRule<(), View, Snapshot<Run>> for BankRule {
+impl TableRule<(), StoreView, Snapshot<Run>> for BankRule {
     ghost use Rattle.snapshot_store.specs.Rule.{KeepsRule};
     ghost use Rattle.snapshot_store.specs.Views.{first_view};
 
@@ -20,7 +20,7 @@ impl TableRule<(), View, Snapshot<Run>> for BankRule {
 /// The first look of a reading.
 pub struct LookFirst;
 
-impl Play<(), View> for LookFirst {
+impl Play<(), StoreView> for LookFirst {
     ghost use Rattle.snapshot_store.specs.Plays.{looks_first};
 
     ghost then = { looks_first };
@@ -29,7 +29,7 @@ impl Play<(), View> for LookFirst {
 /// A look of its own.
 pub struct LookOnce;
 
-impl Play<(), View> for LookOnce {
+impl Play<(), StoreView> for LookOnce {
     ghost use Rattle.snapshot_store.specs.Plays.{looks_once};
 
     ghost then = { looks_once };
@@ -38,7 +38,7 @@ impl Play<(), View> for LookOnce {
 /// Reads the count of rows of a table.
 pub struct CountRows;
 
-impl Play<(), View> for CountRows {
+impl Play<(), StoreView> for CountRows {
     ghost use Rattle.snapshot_store.specs.Plays.{counts_rows};
 
     ghost then = { counts_rows };
@@ -47,7 +47,7 @@ impl Play<(), View> for CountRows {
 /// Reads the next word of a table.
 pub struct ReadWord;
 
-impl Play<(), View> for ReadWord {
+impl Play<(), StoreView> for ReadWord {
     ghost use Rattle.snapshot_store.specs.Plays.{reads_word};
 
     ghost then = { reads_word };
@@ -56,7 +56,7 @@ impl Play<(), View> for ReadWord {
 /// The last look of a reading.
 pub struct LookLast;
 
-impl Play<(), View> for LookLast {
+impl Play<(), StoreView> for LookLast {
     ghost use Rattle.snapshot_store.specs.Plays.{looks_last};
 
     ghost then = { looks_last };
@@ -65,7 +65,7 @@ impl Play<(), View> for LookLast {
 /// Sets the clock.
 pub struct SetClock;
 
-impl Play<(), View> for SetClock {
+impl Play<(), StoreView> for SetClock {
     ghost use Rattle.snapshot_store.specs.Plays.{sets_clock};
 
     ghost then = { sets_clock };
@@ -74,7 +74,7 @@ impl Play<(), View> for SetClock {
 /// Stores the next word of a table.
 pub struct StoreWord;
 
-impl Play<(), View> for StoreWord {
+impl Play<(), StoreView> for StoreWord {
     ghost use Rattle.snapshot_store.specs.Plays.{stores_word};
 
     ghost then = { stores_word };
@@ -83,7 +83,7 @@ impl Play<(), View> for StoreWord {
 /// Looks whether the next word of a table needs to be stored.
 pub struct FindWord;
 
-impl Play<(), View> for FindWord {
+impl Play<(), StoreView> for FindWord {
     ghost use Rattle.snapshot_store.specs.Plays.{finds_word};
 
     ghost then = { finds_word };
@@ -92,7 +92,7 @@ impl Play<(), View> for FindWord {
 /// Takes the turn where it is free.
 pub struct TakeTurn;
 
-impl Play<(), View> for TakeTurn {
+impl Play<(), StoreView> for TakeTurn {
     ghost use Rattle.snapshot_store.specs.Plays.{takes_turn};
 
     ghost then = { takes_turn };
@@ -101,16 +101,16 @@ impl Play<(), View> for TakeTurn {
 /// Gives the turn back.
 pub struct GiveTurn;
 
-impl Play<(), View> for GiveTurn {
+impl Play<(), StoreView> for GiveTurn {
     ghost use Rattle.snapshot_store.specs.Plays.{gives_turn};
 
     ghost then = { gives_turn };
 }
 
 /// How a view is split, and how two are joined.
-pub struct Parting;
+pub struct StoreSplit;
 
-impl Split<View> for Parting {
+impl Split<StoreView> for StoreSplit {
     ghost use Rattle.snapshot_store.specs.Views.{informed};
 
     ghost left = { λ v. v };
@@ -118,7 +118,7 @@ impl Split<View> for Parting {
     ghost right = { λ v. informed v.run v.floor };
 }
 
-impl Join<View> for Parting {
+impl Join<StoreView> for StoreSplit {
     ghost use Rattle.snapshot_store.specs.Views.{both_views, spent_view};
 
     ghost both = { λ v w. both_views v w };

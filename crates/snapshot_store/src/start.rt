@@ -8,10 +8,10 @@ ghost use Rattle.snapshot_store.specs.Lines.{count, size};
 ghost use Rattle.snapshot_store.specs.Models.{IsNewCaller, IsOf};
 ghost use Rattle.snapshot_store.specs.Opening.{AreFirst, AreOpening};
 
-use crate::board::{Board, Place};
+use crate::board::{Board, BoardSeat};
 use crate::callers::Caller;
 use crate::layout::Layout;
-use crate::plays::Parting;
+use crate::plays::StoreSplit;
 use crate::rows::copy_table;
 use crate::store::Store;
 use crate::writers::{Phase, Writer};
@@ -82,7 +82,7 @@ impl Store {
         let mut words = Vec::with_capacity(alloc, layout.largest())?;
         let first = opening(alloc, run, &layout, tables, &mut words)?;
         let about = Snapshot::of(run);
-        let (board, place): (Board, Place) = Table::of_words(alloc, first.as_slice(), &about)?;
+        let (board, place): (Board, BoardSeat) = Table::of_words(alloc, first.as_slice(), &about)?;
         let store = Store {
             board,
             layout,
@@ -105,7 +105,10 @@ impl Store {
         ensures caller { IfOk result (IsNewCaller self.now) }
     {
         let words = Vec::with_capacity(alloc, self.layout.largest())?;
-        let place = self.board.shared.split_seat::<Parting>(&mut writer.place);
+        let place = self
+            .board
+            .shared
+            .split_seat::<StoreSplit>(&mut writer.place);
         Ok(Caller {
             place,
             words,

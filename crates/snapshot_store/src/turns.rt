@@ -4,7 +4,7 @@ ghost use Rattle.std.specs.Prelude.{◌≡◌, ◌+◌, IsFalse, IsTrue, true, f
 ghost use Rattle.snapshot_store.specs.Models.{IsSamePlace};
 ghost use Rattle.snapshot_store.specs.Views.{IsQuiet, IsSameBut};
 
-use crate::board::Place;
+use crate::board::BoardSeat;
 use crate::plays::{GiveTurn, TakeTurn};
 use crate::store::Store;
 use std::hint::spin_loop;
@@ -23,7 +23,7 @@ const LOOKS: u32 = 100;
 
 impl Store {
     /// Takes the turn where it is free, and answers whether it was.
-    pub(crate) fn try_turn(&self, place: &mut Place) -> bool
+    pub(crate) fn try_turn(&self, place: &mut BoardSeat) -> bool
         requires own { place.old.table_id ≡ self.now.table }
         requires quiet { IsQuiet place.old.me.0.doing }
         ensures place { IsSamePlace place.old place.new × IsSameBut place.old.me.0 place.new.me.0 }
@@ -53,7 +53,7 @@ impl Store {
 
     /// Gives the turn back, and wakes a caller that sleeps, where one does. It is counted before it looks at the turn for the last
     /// time, so that none sleeps on beside a free turn.
-    pub(crate) fn give_turn(&self, place: &mut Place)
+    pub(crate) fn give_turn(&self, place: &mut BoardSeat)
         requires own { place.old.table_id ≡ self.now.table }
         requires quiet { IsQuiet place.old.me.0.doing }
         requires turn { place.old.me.0.turn ≡ true }

@@ -10,7 +10,7 @@ ghost use Rattle.snapshot_store.specs.Views.{IsSameSight};
 ghost use Rattle.snapshot_store.specs.declared.board.Doing.TheVariants.{Writing};
 
 use crate::answers::Full;
-use crate::board::Place;
+use crate::board::BoardSeat;
 use crate::plays::{FindWord, SetClock, StoreWord};
 use crate::rows::copy_table;
 use crate::store::Store;
@@ -38,7 +38,7 @@ pub enum Phase {
 /// often it has asked for the turn while a caller had it.
 #[derive(Drop)]
 pub struct Writer {
-    pub(crate) place: Place,
+    pub(crate) place: BoardSeat,
     pub(crate) step: u64,
     pub(crate) phase: Phase,
     /// Room for the words of the largest table.
@@ -105,7 +105,7 @@ impl Store {
 
     // Stores a table's words in the bank of the step that follows `step`. A word that the bank has already is not stored again:
     // a load is a plain read, and a store takes the word from the processors of the callers.
-    fn store_words(&self, place: &mut Place, step: u64, number: u32, table: &[u64])
+    fn store_words(&self, place: &mut BoardSeat, step: u64, number: u32, table: &[u64])
         requires own { IsOf self.now place.old.table_id place.old.me.0.run }
         requires number { number < count self.now.run }
         requires step { (step + 1 < 2 ^ 62) × (place.old.me.0.floor ≡ updating (step + 1)) }

@@ -3,7 +3,7 @@ use Rattle.std.proofs.Common.{◌≡◌, refl, ap, ap₂, sym, ◌∙◌, subst,
 use Rattle.std.{specs.Prelude.{negsuc, ◌-ℤ◌}, specs.Cmp.{IsStrictWeakOrder, int_cmp_is, int_ranks}, specs.List.Sorted.{IsPermutation, IsSortedBy}, specs.Ordering.{MatchOrdering, int_cmp, nat_cmp, ordering_then}, specs.declared.cmp.Ordering.Ordering, specs.declared.cmp.Ordering.TheVariants.{Less, Equal, Greater}, proofs.lemmas.Cmp.{back_total, int_cmp_total, on_total, then_total, tied_itself}, proofs.lemmas.Int.ints, proofs.lemmas.List.MinMax.ranks_by, proofs.lemmas.List.Sorted.IsPermutation-map}
 use Rattle.key_lists.proofs.Every.{all_from, every, every-map, map_map, map_own}
 use Rattle.tick_model.{specs.declared.plan.SortBy.SortBy, specs.Sort.column_cmp, specs.Tables.null}
-use Rattle.sort_op.{specs.declared.arrivals.Coming.Coming, specs.declared.row_order.Row.Row, specs.Cells.cells_cmp, specs.Entries.{Falls, entry_cmp}, specs.Firsts.{coming_cmp, coming_of, ranked, rows_in}, specs.Ranks.{cell_in, cells_from, row_entry}, proofs.Arrived.rows_fall, proofs.Comparing.entries_total, proofs.Inserted.every_permuted}
+use Rattle.sort_op.{specs.declared.arrivals.Coming.Coming, specs.declared.row_order.OrderedRow.OrderedRow, specs.Cells.cells_cmp, specs.Entries.{Falls, entry_cmp}, specs.Firsts.{coming_cmp, coming_of, ranked, rows_in}, specs.Ranks.{cell_in, cells_from, row_entry}, proofs.Arrived.rows_fall, proofs.Comparing.entries_total, proofs.Inserted.every_permuted}
 
 -- of two opposites the lower is that of the higher
 flipped : (x y : ℤ) → int_cmp (negsuc 0 -ℤ x) (negsuc 0 -ℤ y) ≡ int_cmp y x
@@ -22,7 +22,7 @@ twice Less s t = refl
 twice Equal s t = refl
 twice Greater s t = refl
 
-first_decides : (by : List SortBy) (cells : List (List ℤ)) (a b : Row) → coming_cmp by cells (coming_of by cells a) (coming_of by cells b) ≡ entry_cmp by (row_entry by cells a) (row_entry by cells b)
+first_decides : (by : List SortBy) (cells : List (List ℤ)) (a b : OrderedRow) → coming_cmp by cells (coming_of by cells a) (coming_of by cells b) ≡ entry_cmp by (row_entry by cells a) (row_entry by cells b)
 first_decides [] cells a b = ap (λ r. ordering_then r (entry_cmp [] (row_entry [] cells a) (row_entry [] cells b))) (tied_itself int_cmp_total null)
 first_decides (sort ∷ by) cells a b =
     let x = cell_in cells 0 a.handle in
@@ -37,7 +37,7 @@ module _ (by : List SortBy) (cells : List (List ℤ)) where
   alike : (a b : Coming) → coming_of by cells a.row ≡ a → coming_of by cells b.row ≡ b → coming_cmp by cells a b ≡ entry_cmp by (row_entry by cells a.row) (row_entry by cells b.row)
   alike a b p q = ap₂ (coming_cmp by cells) (sym p) (sym q) ∙ first_decides by cells a.row b.row
 
-  module _ (rows : List Row) (coming : List Coming) (shuffled : IsPermutation (map (coming_of by cells) rows) coming) where
+  module _ (rows : List OrderedRow) (coming : List Coming) (shuffled : IsPermutation (map (coming_of by cells) rows) coming) where
     made : (k : ℕ) (d : Coming) → k < length coming → coming_of by cells (get_or coming k d).row ≡ get_or coming k d
     made =
         all_from (λ (next : Coming). coming_of by cells next.row ≡ next) coming
@@ -52,5 +52,5 @@ module _ (by : List SortBy) (cells : List (List ℤ)) where
 
     pub coming_permuted : IsPermutation rows (rows_in coming)
     coming_permuted =
-        subst (λ some. IsPermutation some (rows_in coming)) (map_map (λ (next : Coming). next.row) (coming_of by cells) rows ∙ map_own (λ (row : Row). row) rows (every (λ (row : Row). row ≡ row) rows (λ row. refl)))
+        subst (λ some. IsPermutation some (rows_in coming)) (map_map (λ (next : Coming). next.row) (coming_of by cells) rows ∙ map_own (λ (row : OrderedRow). row) rows (every (λ (row : OrderedRow). row ≡ row) rows (λ row. refl)))
         (IsPermutation-map (λ (next : Coming). next.row) (map (coming_of by cells) rows) coming shuffled)

@@ -1,6 +1,7 @@
 -- The order of entries is total, and an entry stands neither before nor behind itself alone.
 use Rattle.std.proofs.Common.{◌≡◌, refl, ap, ap₂, sym, ◌∙◌, true, false, cond, ◌&&◌, ◌==◌, ℕ, arith, List, [], ◌∷◌, length, drop, true≢false, inl, inr, ℤ, is_lt}
 use Rattle.std.{specs.Cmp.IsTotalOrder, specs.Cmp.Derive.point_total, specs.Cmp.Rules.signed_items, specs.Ordering.{int_cmp, nat_cmp, ordering_then, ordering_index, ordering_reverse}, specs.declared.cmp.Ordering.Ordering, specs.declared.cmp.Ordering.TheVariants.{Less, Equal, Greater}, proofs.lemmas.Bool.{and_parts, eqb-true, eq-eqb, cases_Bool}, proofs.lemmas.Cmp.{int_cmp_total, nat_cmp_total, then_total, on_total, back_total, tied_itself, ranked, int_ranked}}
+use Rattle.key_lists.proofs.Booleans.{less_from}
 use Rattle.tick_model.{specs.declared.plan.SortBy.SortBy, specs.Tables.{cell, same_cells}, specs.Sort.column_cmp}
 use Rattle.sort_op.{specs.declared.entry.Entry.Entry, specs.Cells.cells_cmp, specs.Entries.{entry_cmp, comes_before, is_same, IsWhole}}
 
@@ -13,11 +14,6 @@ cells_total (sort ∷ by) = then_total (on_total (λ (cells : List ℤ). cell ce
 
 pub entries_total : (by : List SortBy) → IsTotalOrder (entry_cmp by)
 entries_total by = then_total (on_total (λ (entry : Entry). entry.cells) (cells_total by)) (on_total (λ (entry : Entry). entry.key) nat_cmp_total)
-
-less_from : (r : Ordering) → is_lt r ≡ true → r ≡ Less
-less_from Less e = refl
-less_from Equal e = absurd (true≢false (sym e))
-less_from Greater e = absurd (true≢false (sym e))
 
 -- entries of equal cells and keys are one
 then_parts : (r s : Ordering) → ordering_then r s ≡ Equal → (r ≡ Equal) × (s ≡ Equal)

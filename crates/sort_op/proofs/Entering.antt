@@ -5,7 +5,7 @@ use Rattle.key_lists.{specs.Keys.{IsRising, is_among}, proofs.Among.{among-appen
 use Rattle.row_handles.specs.Entries.{Entry as Handled, entry_of, handle_under, key_with, keys_of, with_row}
 use Rattle.row_set.{specs.Sets.with_key, proofs.United.{among-with_key, with_key_rises}}
 use Rattle.tick_model.{specs.declared.plan.SortBy.SortBy, specs.declared.table.PlainTable.PlainTable}
-use Rattle.sort_op.{specs.declared.entry.Entry.Entry, specs.declared.row_order.Row.Row, specs.Entries.keys_in, specs.Ranks.{AreArrived, HasArrived, Ranking, arrived, cell_in}, specs.Reading.entries_under, proofs.KeptCells.cells_same, proofs.Members.keys_under}
+use Rattle.sort_op.{specs.declared.entry.Entry.Entry, specs.declared.row_order.OrderedRow.OrderedRow, specs.Entries.keys_in, specs.Ranks.{AreArrived, HasArrived, Ranking, arrived, cell_in}, specs.Reading.entries_under, proofs.KeptCells.cells_same, proofs.Members.keys_under}
 
 -- a key that has no handle is none of the keys
 pub not_among : (key : ℕ) (xs : List Handled) → handle_under key xs ≡ None → is_among key (keys_of xs) ≡ false
@@ -87,28 +87,28 @@ others_with key handle other own xs fresh known =
     ∙ known
 
 -- one row more that is entered
-pub arrived_more : (old new : Ranking) (rows : List Row) (entries : List Entry) (row : Row) (key : ℕ) (entry : Entry) → AllByRecursion (λ (other : Row). other.key ≢ key) rows → ((other : Row) (own : Entry) → other.key ≢ key → HasArrived old other own → HasArrived new other own)
+pub arrived_more : (old new : Ranking) (rows : List OrderedRow) (entries : List Entry) (row : OrderedRow) (key : ℕ) (entry : Entry) → AllByRecursion (λ (other : OrderedRow). other.key ≢ key) rows → ((other : OrderedRow) (own : Entry) → other.key ≢ key → HasArrived old other own → HasArrived new other own)
     → AreArrived old rows entries → HasArrived new row entry → AreArrived new (rows ++ row ∷ []) (entries ++ entry ∷ [])
 arrived_more old new rows entries row key entry apart frame h more = record {
-  known = every-append (λ (r : Row). key_with r.handle new.handles ≡ Some r.key) rows (row ∷ []) (every_weaker (λ r. HasArrived new r (arrived old r)) (λ (r : Row). key_with r.handle new.handles ≡ Some r.key) rows (λ r a. a.known) all) (more.known, tt);
+  known = every-append (λ (r : OrderedRow). key_with r.handle new.handles ≡ Some r.key) rows (row ∷ []) (every_weaker (λ r. HasArrived new r (arrived old r)) (λ (r : OrderedRow). key_with r.handle new.handles ≡ Some r.key) rows (λ r a. a.known) all) (more.known, tt);
   same =
       map-append (arrived new) rows (row ∷ [])
       ∙ ap₂ (λ (xs : List Entry) (x : Entry). xs ++ x ∷ []) (map_same (arrived new) (arrived old) rows (every_weaker (λ r. HasArrived new r (arrived old r)) (λ r. arrived new r ≡ arrived old r) rows (λ r a. a.same) all) ∙ h.same) more.same;
 }
   where
     all : AllByRecursion (λ r. HasArrived new r (arrived old r)) rows
-    all = every_both (λ (r : Row). r.key ≢ key) (λ (r : Row). key_with r.handle old.handles ≡ Some r.key) (λ r. HasArrived new r (arrived old r)) rows (λ r ne known. frame r (arrived old r) ne (record { known = known; same = refl })) apart h.known
+    all = every_both (λ (r : OrderedRow). r.key ≢ key) (λ (r : OrderedRow). key_with r.handle old.handles ≡ Some r.key) (λ r. HasArrived new r (arrived old r)) rows (λ r ne known. frame r (arrived old r) ne (record { known = known; same = refl })) apart h.known
 
 pub none_arrived : (ranking : Ranking) → AreArrived ranking [] []
 none_arrived ranking = record { known = tt; same = refl }
 
 -- the rows that are entered have the keys that were given
-pub keys_apart : (by : List SortBy) (table : PlainTable) (ranking : Ranking) (rows : List Row) (some : List ℕ) (key : ℕ) → AreArrived ranking rows (entries_under by table some) → is_among key some ≡ false → AllByRecursion (λ (row : Row). row.key ≢ key) rows
+pub keys_apart : (by : List SortBy) (table : PlainTable) (ranking : Ranking) (rows : List OrderedRow) (some : List ℕ) (key : ℕ) → AreArrived ranking rows (entries_under by table some) → is_among key some ≡ false → AllByRecursion (λ (row : OrderedRow). row.key ≢ key) rows
 keys_apart by table ranking rows some key h out =
-    every_weaker (λ (row : Row). is_among row.key some ≡ true) (λ (row : Row). row.key ≢ key) rows (λ row own e. true≢false (sym own ∙ ap (λ k. is_among k some) e ∙ out))
-    (every_unmapped (λ k. is_among k some ≡ true) (λ (row : Row). row.key) rows (subst (AllByRecursion (λ k. is_among k some ≡ true)) (sym keys) (each_among some)))
+    every_weaker (λ (row : OrderedRow). is_among row.key some ≡ true) (λ (row : OrderedRow). row.key ≢ key) rows (λ row own e. true≢false (sym own ∙ ap (λ k. is_among k some) e ∙ out))
+    (every_unmapped (λ k. is_among k some ≡ true) (λ (row : OrderedRow). row.key) rows (subst (AllByRecursion (λ k. is_among k some ≡ true)) (sym keys) (each_among some)))
   where
-    keys : map (λ (row : Row). row.key) rows ≡ some
+    keys : map (λ (row : OrderedRow). row.key) rows ≡ some
     keys = sym (map_map (λ (entry : Entry). entry.key) (arrived ranking) rows) ∙ ap keys_in h.same ∙ keys_under by table some
 
 -- a handle that is given, or not
@@ -132,7 +132,7 @@ module _ {E : Type 0} where
 
 -- what is known of a row under another key stays
 pub still_arrived : (ranking : Ranking) (key : ℕ) (handles : List Handled) (cells : List (List ℤ)) → ((handle other : ℕ) → key_with handle ranking.handles ≡ Some other → other ≢ key → (key_with handle handles ≡ Some other) × ((at : ℕ) → cell_in cells at handle ≡ cell_in ranking.cells at handle))
-    → (row : Row) (entry : Entry) → row.key ≢ key → HasArrived ranking row entry → HasArrived (record { by = ranking.by; handles = handles; cells = cells; rows = ranking.rows }) row entry
+    → (row : OrderedRow) (entry : Entry) → row.key ≢ key → HasArrived ranking row entry → HasArrived (record { by = ranking.by; handles = handles; cells = cells; rows = ranking.rows }) row entry
 still_arrived ranking key handles cells same row entry ne h =
     let kept = same row.handle row.key h.known ne in record {
       known = kept.0;

@@ -4,7 +4,7 @@ use Rattle.std.{specs.Prelude.{option_map, slice_get}, specs.List.AllByRecursion
 use Rattle.key_lists.{specs.Keys.{IsRising, is_among}, proofs.Among.{among-append, each_among, of_among}, proofs.Booleans.or_false, proofs.Every.{every, every_weaker, every-map, all_from, every_unmapped}, proofs.Parts.every_got}
 use Rattle.row_handles.specs.Entries.{Entry as Handled, handle_under, key_with, keys_of}
 use Rattle.tick_model.specs.declared.plan.SortBy.{SortBy}
-use Rattle.sort_op.{specs.declared.entry.Entry.Entry, specs.declared.row_order.Row.Row, specs.Entries.{IsWhole, Rises, comes_before, is_in, is_same, keys_in}, specs.Cells.cells_cmp, specs.Places.{AreApart, AreUnder}, specs.Ranks.{IsRanking, Ranking, arrived, entry_in, key_in, kept_cells, listed}, proofs.Comparing.{before_trans, not_before_own, same_is}, proofs.KeptCells.length-kept}
+use Rattle.sort_op.{specs.declared.entry.Entry.Entry, specs.declared.row_order.OrderedRow.OrderedRow, specs.Entries.{IsWhole, Rises, comes_before, is_in, is_same, keys_in}, specs.Cells.cells_cmp, specs.Places.{AreApart, AreUnder}, specs.Ranks.{IsRanking, Ranking, arrived, entry_in, key_in, kept_cells, listed}, proofs.Comparing.{before_trans, not_before_own, same_is}, proofs.KeptCells.length-kept}
 
 module _ (by : List SortBy) (entry : Entry) where
   not_sooner : (x y : Entry) → comes_before by x y ≡ true → comes_before by x entry ≡ false → comes_before by y entry ≡ false
@@ -156,17 +156,17 @@ module _ (ranking : Ranking) where
         | inr rest ↦ row_of entry rows known.1 rest
       ]
 
-  pub entry_known : (row : Row) → key_with row.handle ranking.handles ≡ Some row.key → entry_in ranking row.handle ≡ arrived ranking row
+  pub entry_known : (row : OrderedRow) → key_with row.handle ranking.handles ≡ Some row.key → entry_in ranking row.handle ≡ arrived ranking row
   entry_known row known = ap (λ (o : Option ℕ). let entry : Entry = record { cells = kept_cells ranking.by ranking.cells row.handle; key = unwrap_or o 0 } in entry) known
 
   pub whole_all : AllByRecursion (IsWhole ranking.by) (listed ranking)
   whole_all = every-map (IsWhole ranking.by) (entry_in ranking) ranking.rows (every (λ handle. IsWhole ranking.by (entry_in ranking handle)) ranking.rows (λ handle. length-kept 0 ranking.by ranking.cells handle))
 
-  pub arrived_whole : (row : Row) → IsWhole ranking.by (arrived ranking row)
+  pub arrived_whole : (row : OrderedRow) → IsWhole ranking.by (arrived ranking row)
   arrived_whole row = length-kept 0 ranking.by ranking.cells row.handle
 
   -- the rows whose sort cells stand before others
-  module _ (row : Row) where
+  module _ (row : OrderedRow) where
     abbrev pub cells_before : ℕ → Bool
     cells_before handle = is_lt (cells_cmp ranking.by (kept_cells ranking.by ranking.cells handle) (kept_cells ranking.by ranking.cells row.handle))
 
@@ -223,7 +223,7 @@ module _ (ranking : Ranking) where
         → slice_get (keys_in (listed ranking)) n ≡ Some key
     position_counted key handle n h found within before others =
         let there = row_under key ranking.rows is.known h in
-        let row : Row = record { key = key; handle = handle } in
+        let row : OrderedRow = record { key = key; handle = handle } in
         let own : there.1.0 ≡ handle = same_Some there.1.0 handle (sym (handle_of_key key there.1.0 ranking.handles is.keys there.1.1.1) ∙ found) in
         let here : slice_get (listed ranking) there.0 ≡ Some (arrived ranking row) =
         slice_get-map (entry_in ranking) ranking.rows there.0 ∙ ap (option_map (entry_in ranking)) (there.1.1.0 ∙ ap Some own) ∙ ap Some (entry_known row (ap (λ n. key_with n ranking.handles) (sym own) ∙ there.1.1.1)) in

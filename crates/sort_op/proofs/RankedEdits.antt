@@ -6,7 +6,7 @@ use Rattle.row_handles.specs.Entries.{Entry as Handled, key_with, keys_of, left_
 use Rattle.shift_data.specs.Moves.{IsLawful}
 use Rattle.table_update.proofs.LawfulParts.{places_rise}
 use Rattle.tick_model.{specs.declared.plan.SortBy.SortBy, specs.declared.update.ShiftRange.ShiftRange, specs.Shifts.{as_key, moved}}
-use Rattle.sort_op.{specs.declared.entry.Entry.Entry, specs.declared.row_order.Row.Row, specs.Entries.{Rises, comes_before, keys_in, place_of, rekeyed}, specs.Places.left_from, specs.Ranks.{IsRanking, Ranking, arrived, cell_in, entry_in, key_in, kept_cells, listed}, proofs.KeptCells.cells_same, proofs.Made.rises_more, proofs.Ranked.{arrived_whole, entry_known, key_there, some_key, whole_all}, proofs.Rekeyed.rises_moved, proofs.Rises.rises_without}
+use Rattle.sort_op.{specs.declared.entry.Entry.Entry, specs.declared.row_order.OrderedRow.OrderedRow, specs.Entries.{Rises, comes_before, keys_in, place_of, rekeyed}, specs.Places.left_from, specs.Ranks.{IsRanking, Ranking, arrived, cell_in, entry_in, key_in, kept_cells, listed}, proofs.KeptCells.cells_same, proofs.Made.rises_more, proofs.Ranked.{arrived_whole, entry_known, key_there, some_key, whole_all}, proofs.Rekeyed.rises_moved, proofs.Rises.rises_without}
 
 module _ {X Y : Type 0} (f : X → Y) where
   pub map_insert : (xs : List X) (i : ℕ) (x : X) → map f (insert xs i x) ≡ insert (map f xs) i (f x)
@@ -30,11 +30,11 @@ module _ {X Y : Type 0} (f : X → Y) where
       go false ys zs e = ap (λ zs. f x ∷ zs) e
 
 -- a row more, at its place, and a row less
-pub listed_more : (ranking : Ranking) (row : Row) (n : ℕ) → key_with row.handle ranking.handles ≡ Some row.key → listed (record ranking { rows = insert ranking.rows n row.handle }) ≡ insert (listed ranking) n (arrived ranking row)
+pub listed_more : (ranking : Ranking) (row : OrderedRow) (n : ℕ) → key_with row.handle ranking.handles ≡ Some row.key → listed (record ranking { rows = insert ranking.rows n row.handle }) ≡ insert (listed ranking) n (arrived ranking row)
 listed_more ranking row n known = map_insert (entry_in ranking) ranking.rows n row.handle ∙ ap (insert (listed ranking) n) (entry_known ranking row known)
 
 module _ (ranking : Ranking) (is : IsRanking ranking) where
-  module _ (row : Row) (n : ℕ) (known : key_with row.handle ranking.handles ≡ Some row.key) where
+  module _ (row : OrderedRow) (n : ℕ) (known : key_with row.handle ranking.handles ≡ Some row.key) where
     pub ranking_more : n ≤ length (listed ranking) → AllByRecursion (λ x. comes_before ranking.by x (arrived ranking row) ≡ true) (take n (listed ranking)) → AllByRecursion (λ y. comes_before ranking.by y (arrived ranking row) ≡ false) (drop n (listed ranking))
         → place_of (arrived ranking row) (listed ranking) ≡ None → IsRanking (record ranking { rows = insert ranking.rows n row.handle })
     ranking_more within less more absent = record {

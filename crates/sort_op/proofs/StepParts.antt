@@ -9,7 +9,7 @@ use Rattle.shift_data.specs.Moves.{IsLawful}
 use Rattle.shown_rows.proofs.Restricted.{exact_shift}
 use Rattle.tick_model.{specs.declared.plan.SortBy.SortBy, specs.declared.table.PlainRow.PlainRow, specs.declared.table.PlainTable.PlainTable, specs.declared.update.KeyPair.KeyPair, specs.declared.update.ShiftRange.ShiftRange, specs.Shifts.{as_key, moved}, specs.Sort.{in_order, sort_pairs, sort_table}, specs.Tables.{IsTable, keys, same_cells}, specs.Updates.{Update, between, kept_pair, new_keys, old_keys, pairs}}
 use Rattle.tick_table.{specs.Exact.{IsExact, counted, tick_of}, specs.Ticking.Ticking}
-use Rattle.sort_op.{specs.declared.entry.Entry.Entry, specs.declared.row_order.Row.Row, specs.Entries.{AreDistinct, Rises, is_in, keys_in, rekeyed}, specs.Places.{AreApart, AreFound, AreUnder, is_one, left_from, other_places}, specs.Ranks.{IsSettled, Ranking, arrived, entry_in, listed}, specs.Reading.{carried, coming, entries_under, entry_under, leaving, staying, staying_pairs}, specs.Sorted.{entries_of, entry_of}, specs.Sorter.sorted, proofs.EntryPlaces.place_under, proofs.LeftOut.{under_left, under_within}, proofs.Ranked.listed_count, proofs.RankedEdits.map_left, proofs.Stepped.{added_is, among_listed, apart_listed, coming_absent, coming_distinct, coming_within, compared_are, entries_now, few_coming, few_compared, few_entries, gone_apart, keys_now, other_places_are, removed_is}}
+use Rattle.sort_op.{specs.declared.entry.Entry.Entry, specs.declared.row_order.OrderedRow.OrderedRow, specs.Entries.{AreDistinct, Rises, is_in, keys_in, rekeyed}, specs.Places.{AreApart, AreFound, AreUnder, is_one, left_from, other_places}, specs.Ranks.{IsSettled, Ranking, arrived, entry_in, listed}, specs.Reading.{carried, coming, entries_under, entry_under, leaving, staying, staying_pairs}, specs.Sorted.{entries_of, entry_of}, specs.Sorter.sorted, proofs.EntryPlaces.place_under, proofs.LeftOut.{under_left, under_within}, proofs.Ranked.listed_count, proofs.RankedEdits.map_left, proofs.Stepped.{added_is, among_listed, apart_listed, coming_absent, coming_distinct, coming_within, compared_are, entries_now, few_coming, few_compared, few_entries, gone_apart, keys_now, other_places_are, removed_is}}
 
 under_as : (order other : List Entry) (some positions : List ℕ) → order ≡ other → AreUnder (keys_in order) some positions → AreUnder (keys_in other) some positions
 under_as order other some positions o = subst (λ (entries : List Entry). AreUnder (keys_in entries) some positions) o
@@ -125,7 +125,7 @@ module _ (by : List SortBy) (t : Ticking) (e : IsExact t) where
     pub came_there : AllByRecursion (λ key. is_among key (keys t.new.rows) ≡ true) came
     came_there = subst (AllByRecursion (λ key. is_among key (keys t.new.rows) ≡ true)) (sym c) (coming_within by t e)
 
-    module _ (entered : Ranking) (rows : List Row) (n : listed entered ≡ listed old) (a : map (arrived entered) rows ≡ entries_under by t.new came) where
+    module _ (entered : Ranking) (rows : List OrderedRow) (n : listed entered ≡ listed old) (a : map (arrived entered) rows ≡ entries_under by t.new came) where
       pub rows_are : map (arrived entered) rows ≡ entries_under by t.new (coming by t)
       rows_are = a ∙ ap (entries_under by t.new) c
 

@@ -11,7 +11,7 @@ use Rattle.std.{specs.Prelude.{◌≡◌, ℕ, suc, List, [], ◌∷◌, Some, I
 use Rattle.key_lists.specs.Keys.{IsRising, is_among}
 use Rattle.row_handles.specs.Entries.{Entry as Handled, key_with, keys_of}
 use Rattle.tick_model.{specs.declared.plan.SortBy.SortBy, specs.Tables.cell}
-use Rattle.sort_op.{specs.declared.entry.Entry.Entry, specs.declared.row_order.Row.Row, specs.Entries.{Rises, keys_in}}
+use Rattle.sort_op.{specs.declared.entry.Entry.Entry, specs.declared.row_order.OrderedRow.OrderedRow, specs.Entries.{Rises, keys_in}}
 
 abbrev pub lists_of : List (Vec ℤ) → List (List ℤ)
 lists_of = map (λ column. column.items)
@@ -26,7 +26,7 @@ cells_from place (sort ∷ by) cells handle = cell_in cells place handle ∷ cel
 abbrev pub kept_cells : List SortBy → List (List ℤ) → ℕ → List ℤ
 kept_cells = cells_from 0
 
-abbrev pub row_entry : List SortBy → List (List ℤ) → Row → Entry
+abbrev pub row_entry : List SortBy → List (List ℤ) → OrderedRow → Entry
 row_entry by cells row = record { cells = kept_cells by cells row.handle; key = row.key }
 
 -- rows with their handles and their cells, and the handles in the order of the rows
@@ -45,14 +45,14 @@ entry_in ranking handle = record { cells = kept_cells ranking.by ranking.cells h
 abbrev pub listed : Ranking → List Entry
 listed ranking = map (entry_in ranking) ranking.rows
 
-abbrev pub arrived : Ranking → Row → Entry
+abbrev pub arrived : Ranking → OrderedRow → Entry
 arrived ranking = row_entry ranking.by ranking.cells
 
-pub record HasArrived (ranking : Ranking) (row : Row) (entry : Entry) : Type 0 where
+pub record HasArrived (ranking : Ranking) (row : OrderedRow) (entry : Entry) : Type 0 where
   pub known : key_with row.handle ranking.handles ≡ Some row.key
   pub same : arrived ranking row ≡ entry
 
-pub record AreArrived (ranking : Ranking) (rows : List Row) (entries : List Entry) : Type 0 where
+pub record AreArrived (ranking : Ranking) (rows : List OrderedRow) (entries : List Entry) : Type 0 where
   pub known : AllByRecursion (λ row. key_with row.handle ranking.handles ≡ Some row.key) rows
   pub same : map (arrived ranking) rows ≡ entries
 

@@ -5,14 +5,14 @@ ghost use Rattle.key_lists.specs.Keys.{IsRising, is_among};
 ghost use Rattle.row_changes.specs.Parts.{AreThere};
 ghost use Rattle.row_handles.specs.Entries.{key_with, keys_of};
 ghost use Rattle.sort_op.specs.declared.entry.Entry.{Entry};
-ghost use Rattle.sort_op.specs.declared.row_order.Row.{Row};
+ghost use Rattle.sort_op.specs.declared.row_order.OrderedRow.{OrderedRow};
 ghost use Rattle.sort_op.specs.Entries.{AreDistinct, Falls, Rises, entry_cmp, is_in, keys_in};
 ghost use Rattle.sort_op.specs.Firsts.{coming_cmp, coming_of, rows_in};
 ghost use Rattle.sort_op.specs.Places.{AreFound};
 ghost use Rattle.sort_op.specs.Ranks.{AreArrived, HasArrived, arrived, listed, row_entry};
 ghost use Rattle.sort_op.specs.Reading.{entries_under, entry_with};
 
-use crate::row_order::{Row, RowOrder};
+use crate::row_order::{OrderedRow, RowOrder};
 use crate::sort_cells::SortCells;
 use row_handles::{Handle, Handles};
 use row_set::RowSet;
@@ -37,7 +37,7 @@ fn handle_for(handles: &mut Handles, key: u64) -> Result<Handle, AllocError>
 }
 
 /// How a row stands to another, by the sort columns and then by key.
-fn compare(by: &[SortBy], cells: &SortCells, row: Row, other: Row) -> Ordering
+fn compare(by: &[SortBy], cells: &SortCells, row: OrderedRow, other: OrderedRow) -> Ordering
     ensures { result ≡ entry_cmp by.now (row_entry by.now cells.now row) (row_entry by.now cells.now other) }
 {
     match cells.compare(by, row.handle, other.handle) {
@@ -50,7 +50,7 @@ fn compare(by: &[SortBy], cells: &SortCells, row: Row, other: Row) -> Ordering
 #[derive(Clone, Copy)]
 struct Coming {
     first: i64,
-    row: Row,
+    row: OrderedRow,
 }
 
 impl Coming {
@@ -66,7 +66,11 @@ impl Coming {
 }
 
 /// The rows with their first sort cells.
-fn with_firsts(by: &[SortBy], cells: &SortCells, rows: Vec<Row>) -> Result<Vec<Coming>, AllocError>
+fn with_firsts(
+    by: &[SortBy],
+    cells: &SortCells,
+    rows: Vec<OrderedRow>,
+) -> Result<Vec<Coming>, AllocError>
     ensures { IfOk result (λ coming. coming.items ≡ map (coming_of by.now cells.now) rows.items) }
 {
     let mut coming = Vec::with_capacity(*rows.allocator(), rows.len())?;
@@ -81,7 +85,7 @@ fn with_firsts(by: &[SortBy], cells: &SortCells, rows: Vec<Row>) -> Result<Vec<C
 fn sorted_backward(
     by: &[SortBy],
     cells: &SortCells,
-    rows: Vec<Row>,
+    rows: Vec<OrderedRow>,
 ) -> Result<Vec<Coming>, AllocError>
     ensures permutation { IfOk result (λ coming. IsPermutation rows.items (rows_in coming.items)) }
     ensures backward { IfOk result (λ coming. Falls by.now (map (row_entry by.now cells.now) (rows_in coming.items))) }
@@ -93,18 +97,18 @@ fn sorted_backward(
 
 impl RowOrder {
     /// Takes note of a row that comes or that has other sort cells now, and is not in the order. It gets a handle if it has none.
-    fn enter(&mut self, key: u64, cells: &[i64]) -> Result<Row, AllocError>
+    fn enter(&mut self, key: u64, cells: &[i64]) -> Result<OrderedRow, AllocError>
         requires small { key < 2 ^ 62 }
         requires absent { is_among key (keys_in (listed self.old)) ≡ false }
         ensures by { self.new.by ≡ self.old.by }
         ensures listed { listed self.new ≡ listed self.old }
         ensures entered { IfOk result (λ row. HasArrived self.new row (entry_with self.old.by cells.now key)) }
-        ensures others { (row : Row) (entry : Entry) → row.key ≢ key → HasArrived self.old row entry → HasArrived self.new row entry }
+        ensures others { (row : OrderedRow) (entry : Entry) → row.key ≢ key → HasArrived self.old row entry → HasArrived self.new row entry }
         ensures keys { OnOk result ((other : ℕ) → is_among other (keys_of self.new.handles) ≡ ((key == other) || is_among other (keys_of self.old.handles))) }
     {
         let handle = handle_for(&mut self.handles, key)?;
         self.cells.put_row(self.by.as_slice(), handle, cells)?;
-        Ok(Row { key, handle })
+        Ok(OrderedRow { key, handle })
     }
 
     /// Takes note of the rows under these keys as they are now.
@@ -114,7 +118,7 @@ impl RowOrder {
         input: &TickTable,
         keys: &RowSet,
         reads: &mut Steps<L>,
-    ) -> Result<Vec<Row>, AllocError>
+    ) -> Result<Vec<OrderedRow>, AllocError>
         requires here { AreThere input.now.new keys.now }
         requires absent { AllByRecursion (λ key. is_among key (keys_in (listed self.old)) ≡ false) keys.now }
         ensures by { self.new.by ≡ self.old.by }
@@ -134,7 +138,7 @@ impl RowOrder {
     /// Puts rows in that are not there, no two of which are the same, and gives the positions at which they stand then. They
     /// come in the order in which they stand, each behind the one before it, so that the position of none moves any more; and
     /// where one comes to stand last, so do those behind it, without a search.
-    pub(crate) fn insert_rows(&mut self, rows: Vec<Row>) -> Result<Vec<u64>, AllocError>
+    pub(crate) fn insert_rows(&mut self, rows: Vec<OrderedRow>) -> Result<Vec<u64>, AllocError>
         requires known { AllByRecursion (λ row. key_with row.handle self.old.handles ≡ Some row.key) rows.items }
         requires absent { AllByRecursion (λ row. is_in (arrived self.old row) (listed self.old) ≡ false) rows.items }
         requires distinct { AreDistinct (map (arrived self.old) rows.items) }

@@ -4,7 +4,7 @@ ghost use Rattle.tick_model.specs.Tables.{cell};
 ghost use Rattle.tick_model.specs.Sort.{column_cmp};
 ghost use Rattle.sort_op.specs.Cells.{cells_cmp};
 
-use chunk_list::Change;
+use chunk_list::ItemChange;
 use shift_data::ShiftData;
 use std::cmp::Ordering;
 use tick_model::formula::NULL;
@@ -78,7 +78,7 @@ pub(crate) struct Rekey<'a> {
     pub shifts: &'a ShiftData,
 }
 
-impl Change<Entry> for Rekey<'_> {
+impl ItemChange<Entry> for Rekey<'_> {
     ghost use Rattle.std.specs.Prelude.{◌≡◌, ◌^◌, false};
     ghost use Rattle.shift_data.specs.ShiftLists.{IsShiftList};
     ghost use Rattle.sort_op.specs.Entries.{rekeyed};

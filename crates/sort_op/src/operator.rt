@@ -55,7 +55,7 @@ impl Model for SortOp {
 
 /// The positions of the rows that a step touches, in one order.
 #[derive(Drop)]
-struct Places {
+struct TouchedPositions {
     /// Of those that leave, or of those that come.
     crossing: RowSet,
     /// Of those that stay and may differ.
@@ -102,7 +102,7 @@ impl SortOp {
 /// Where the rows that a step touches stood before it.
 #[derive(Drop)]
 struct Before {
-    places: Places,
+    places: TouchedPositions,
     /// The positions of those that leave or may differ.
     touched: RowSet,
     /// The keys that they had.
@@ -300,7 +300,7 @@ fn places_of(
     order: &RowOrder,
     crossing: RowSet,
     compared: &RowSet,
-) -> Result<Places, AllocError>
+) -> Result<TouchedPositions, AllocError>
     requires compared { AllByRecursion (λ key. IsTrue (is_among key (keys_in (listed order.now)))) compared.now }
     requires apart { AreApart (keys_in (listed order.now)) }
     requires few { length (listed order.now) ≤ 2 ^ 62 }
@@ -312,7 +312,7 @@ fn places_of(
 {
     let compared = positions_of(alloc, order, compared)?;
     let staying = others(alloc, order.len(), &crossing)?;
-    Ok(Places {
+    Ok(TouchedPositions {
         crossing,
         compared,
         staying,
@@ -325,7 +325,7 @@ fn sorted_change<L: Ledger>(
     input: &TickTable,
     order: &RowOrder,
     before: Before,
-    now: Places,
+    now: TouchedPositions,
     reads: &mut Steps<L>,
 ) -> Result<Change, AllocError>
     requires exact { IsExact input.now }

@@ -29,7 +29,7 @@ use tick_model::plan::SortBy;
 
 /// A row by its key and its handle.
 #[derive(Clone, Copy)]
-pub(crate) struct Row {
+pub(crate) struct OrderedRow {
     pub key: u64,
     pub handle: Handle,
 }
@@ -110,7 +110,7 @@ impl RowOrder {
     }
 
     /// Whether a row stands at a position before another.
-    fn stands_before(&self, position: usize, row: Row) -> bool
+    fn stands_before(&self, position: usize, row: OrderedRow) -> bool
         ensures { result ≡ option_map_or (λ entry. comes_before self.now.by entry (arrived self.now row)) (slice_get (listed self.now) position) false }
     {
         let Some(handle) = self.rows.get(position) else {
@@ -124,7 +124,7 @@ impl RowOrder {
     }
 
     /// How many rows stand before one by their sort cells: a binary search that looks at no key.
-    fn count_cells_before(&self, row: Row) -> usize
+    fn count_cells_before(&self, row: OrderedRow) -> usize
         ensures within { result ≤ length (listed self.now) }
         ensures before { AllByRecursion (λ entry. comes_before self.now.by entry (arrived self.now row) ≡ true) (take result (listed self.now)) }
         ensures ranking { IsRanking self.now }
@@ -137,7 +137,7 @@ impl RowOrder {
 
     /// How many rows stand before one. Where the last one does, no other is looked at; and where rows of the same cells do, one
     /// more search finds how many.
-    fn count_before(&self, row: Row) -> usize
+    fn count_before(&self, row: OrderedRow) -> usize
         ensures within { result ≤ length (listed self.now) }
         ensures before { AllByRecursion (λ entry. comes_before self.now.by entry (arrived self.now row) ≡ true) (take result (listed self.now)) }
         ensures others { AllByRecursion (λ entry. comes_before self.now.by entry (arrived self.now row) ≡ false) (drop result (listed self.now)) }
@@ -167,7 +167,7 @@ impl RowOrder {
         ensures { slice_get (keys_in (listed self.now)) result ≡ Some key }
     {
         let handle = self.handles.handle_of(key).unwrap();
-        self.count_before(Row { key, handle }) as u64
+        self.count_before(OrderedRow { key, handle }) as u64
     }
 
     /// Whether the row under a key has the sort cells of this one.
@@ -180,7 +180,7 @@ impl RowOrder {
     }
 
     /// How many rows stand before one. Where it is known to stand behind all, no row is looked at.
-    fn position_for(&self, row: Row, is_last: bool) -> usize
+    fn position_for(&self, row: OrderedRow, is_last: bool) -> usize
         requires { IsTrue is_last → AllByRecursion (λ entry. comes_before self.now.by entry (arrived self.now row) ≡ true) (listed self.now) }
         ensures within { result ≤ length (listed self.now) }
         ensures before { AllByRecursion (λ entry. comes_before self.now.by entry (arrived self.now row) ≡ true) (take result (listed self.now)) }
@@ -194,7 +194,7 @@ impl RowOrder {
     }
 
     /// Puts a row in that is not there, and gives its position. It may be known to stand behind all others.
-    pub(crate) fn insert(&mut self, row: Row, is_last: bool) -> Result<u64, AllocError>
+    pub(crate) fn insert(&mut self, row: OrderedRow, is_last: bool) -> Result<u64, AllocError>
         requires known { key_with row.handle self.old.handles ≡ Some row.key }
         requires absent { place_of (arrived self.old row) (listed self.old) ≡ None }
         requires last { IsTrue is_last → AllByRecursion (λ entry. comes_before self.old.by entry (arrived self.old row) ≡ true) (listed self.old) }

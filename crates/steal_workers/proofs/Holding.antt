@@ -5,7 +5,7 @@ use mathlib.Core.Logic.{dite}
 use mathlib.Core.Option.{some}
 use native.Mathlib.Decide.{ℕ_discrete}
 use lib.ListN.{get_elem?}
-use Rattle.graph_words.{specs.declared.graph.Edge.Edge, specs.declared.graph.Plan.Plan, specs.declared.table.Mark.Mark, specs.declared.table.Mark.TheVariants.{Unmarked, InHand, Drawn, Untaken, Taken, PutBack, Delivered}, specs.declared.table.View.View, specs.Marks.{IsHadMark, at, either_mark, inputs, put, when}, specs.Models.SeatModel, specs.Seats.{Has, IsLateByFrom, IsMarkedByFrom}, specs.Views.{InputsDelivered, IsUntouched, both_views, gets, mark_node}, proofs.Marks.{at_merge, at_put, at_put_else}}
+use Rattle.graph_words.{specs.declared.graph.Edge.Edge, specs.declared.graph.ClaimPlan.ClaimPlan, specs.declared.table.Mark.Mark, specs.declared.table.Mark.TheVariants.{Unmarked, InHand, Drawn, Untaken, Taken, PutBack, Delivered}, specs.declared.table.SeatView.SeatView, specs.Marks.{IsHadMark, at, either_mark, inputs, put, when}, specs.Models.SeatModel, specs.Seats.{Has, IsLateByFrom, IsMarkedByFrom}, specs.Views.{InputsDelivered, IsUntouched, both_views, gets, mark_node}, proofs.Marks.{at_merge, at_put, at_put_else}}
 use Rattle.steal_workers.{specs.Lists.IsListed, proofs.Listing.{listed_cases, listed_first, listed_last, listed_where, moved_in, moved_out, true_false}, specs.Holdings.{AllBack, AllLate, IsGoneOn, IsHeld, IsReady, IsSettled, KeepsOthers, IsJoined, NoNode, OnlyNode, SourcesBack, less_parts, some_parts}}
 
 pub has_mark : (m n : Mark) → m ≡ n → IsHadMark n → IsHadMark m
@@ -38,16 +38,16 @@ inputs_none n (x ∷ xs) is = counted (x.to == n) (list_any (λ (y : Edge). y.to
     counted false b k is rest = let none_more = rest is in omega (arith, none_more)
 
 module _ {W : Type 0} where
-  pub gone_on : (u v w : View W) → IsGoneOn u v → IsGoneOn v w → IsGoneOn u w
+  pub gone_on : (u v w : SeatView W) → IsGoneOn u v → IsGoneOn v w → IsGoneOn u w
   gone_on u v w one two = record { parts = two.parts ∙ one.parts; back = λ m is. two.back m (one.back m is) }
 
-  pub ok_gone_on : {E : Type 0} → (u v : View W) (result : Result (SeatModel W) E) → IsGoneOn u v → IfOk result (λ (s : SeatModel W). IsGoneOn v s.view) → IfOk result (λ (s : SeatModel W). IsGoneOn u s.view)
+  pub ok_gone_on : {E : Type 0} → (u v : SeatView W) (result : Result (SeatModel W) E) → IsGoneOn u v → IfOk result (λ (s : SeatModel W). IsGoneOn v s.view) → IfOk result (λ (s : SeatModel W). IsGoneOn u s.view)
   ok_gone_on u v (Ok s) first rest = gone_on u v s.view first rest
   ok_gone_on u v (Err e) first rest = tt
 
-module _ {W : Type 0} (plan : Plan W) where
+module _ {W : Type 0} (plan : ClaimPlan W) where
   -- the same nodes under another name
-  pub held_as : (u : View W) (P Q : ℕ → Type 0) → ((m : ℕ) → P m → Q m) → ((m : ℕ) → Q m → P m) → IsHeld plan u P → IsHeld plan u Q
+  pub held_as : (u : SeatView W) (P Q : ℕ → Type 0) → ((m : ℕ) → P m → Q m) → ((m : ℕ) → Q m → P m) → IsHeld plan u P → IsHeld plan u Q
   held_as u P Q there back held = record {
     settled = λ m below has. named m (held.settled m below has);
     ready = λ m is. held.ready m (back m is);
@@ -58,12 +58,12 @@ module _ {W : Type 0} (plan : Plan W) where
       named m (inr own) = inr own
 
   -- a node is kept: it stands at the end of the list
-  pub kept_held : (u : View W) (kept more : List ℕ) (n : ℕ) (F : ℕ → Type 0) → more ≡ kept ++ n ∷ [] → IsHeld plan u (λ m. (m ≡ n) ⊎ (IsListed kept m ⊎ F m)) → IsHeld plan u (λ m. IsListed more m ⊎ F m)
+  pub kept_held : (u : SeatView W) (kept more : List ℕ) (n : ℕ) (F : ℕ → Type 0) → more ≡ kept ++ n ∷ [] → IsHeld plan u (λ m. (m ≡ n) ⊎ (IsListed kept m ⊎ F m)) → IsHeld plan u (λ m. IsListed more m ⊎ F m)
   kept_held u kept more n F eq held =
       subst (λ l. IsHeld plan u (λ m. IsListed l m ⊎ F m)) (sym eq) (held_as u (λ m. (m ≡ n) ⊎ (IsListed kept m ⊎ F m)) (λ m. IsListed (kept ++ n ∷ []) m ⊎ F m) (moved_in kept n F) (moved_out kept n F) held)
 
   -- a node is taken off the end of the list
-  pub off_held : (u : View W) (kept found rest : List ℕ) (n : ℕ) → found ≡ rest ++ n ∷ [] → IsHeld plan u (λ m. IsListed kept m ⊎ IsListed found m) → IsHeld plan u (λ m. (m ≡ n) ⊎ (IsListed kept m ⊎ IsListed rest m))
+  pub off_held : (u : SeatView W) (kept found rest : List ℕ) (n : ℕ) → found ≡ rest ++ n ∷ [] → IsHeld plan u (λ m. IsListed kept m ⊎ IsListed found m) → IsHeld plan u (λ m. (m ≡ n) ⊎ (IsListed kept m ⊎ IsListed rest m))
   off_held u kept found rest n eq held =
       held_as u (λ m. IsListed kept m ⊎ IsListed (rest ++ n ∷ []) m) (λ m. (m ≡ n) ⊎ (IsListed kept m ⊎ IsListed rest m)) out back (subst (λ l. IsHeld plan u (λ m. IsListed kept m ⊎ IsListed l m)) eq held)
     where
@@ -81,7 +81,7 @@ module _ {W : Type 0} (plan : Plan W) where
       back m (inr (inr is)) = inr (listed_first rest (n ∷ []) m is)
 
   -- the same where nothing else is kept
-  pub popped_held : (u : View W) (found rest : List ℕ) (n : ℕ) → found ≡ rest ++ n ∷ [] → IsHeld plan u (IsListed found) → IsHeld plan u (λ m. (m ≡ n) ⊎ IsListed rest m)
+  pub popped_held : (u : SeatView W) (found rest : List ℕ) (n : ℕ) → found ≡ rest ++ n ∷ [] → IsHeld plan u (IsListed found) → IsHeld plan u (λ m. (m ≡ n) ⊎ IsListed rest m)
   popped_held u found rest n eq held =
       held_as u (IsListed (rest ++ n ∷ [])) (λ m. (m ≡ n) ⊎ IsListed rest m) (listed_where rest (rest ++ n ∷ []) n refl) back (subst (λ l. IsHeld plan u (IsListed l)) eq held)
     where
@@ -89,14 +89,14 @@ module _ {W : Type 0} (plan : Plan W) where
       back m (inl e) = subst (IsListed (rest ++ n ∷ [])) (sym e) (listed_last rest n)
       back m (inr is) = listed_first rest (n ∷ []) m is
 
-  pub emptied_held : (u : View W) (kept found : List ℕ) → found ≡ [] → IsHeld plan u (λ m. IsListed kept m ⊎ IsListed found m) → IsHeld plan u (IsListed kept)
+  pub emptied_held : (u : SeatView W) (kept found : List ℕ) → found ≡ [] → IsHeld plan u (λ m. IsListed kept m ⊎ IsListed found m) → IsHeld plan u (IsListed kept)
   emptied_held u kept found eq held = held_as u (λ m. IsListed kept m ⊎ IsListed [] m) (IsListed kept) one (λ m is. inl is) (subst (λ l. IsHeld plan u (λ m. IsListed kept m ⊎ IsListed l m)) eq held)
     where
       one : (m : ℕ) → IsListed kept m ⊎ IsListed [] m → IsListed kept m
       one m (inl is) = is
       one m (inr is) = absurd (true_false (sym is))
 
-  pub none_kept_held : (u : View W) (kept found : List ℕ) → kept ≡ [] → IsHeld plan u (λ m. IsListed kept m ⊎ IsListed found m) → IsHeld plan u (IsListed found)
+  pub none_kept_held : (u : SeatView W) (kept found : List ℕ) → kept ≡ [] → IsHeld plan u (λ m. IsListed kept m ⊎ IsListed found m) → IsHeld plan u (IsListed found)
   none_kept_held u kept found eq held = held_as u (λ m. IsListed [] m ⊎ IsListed found m) (IsListed found) one (λ m is. inr is) (subst (λ l. IsHeld plan u (λ m. IsListed l m ⊎ IsListed found m)) eq held)
     where
       one : (m : ℕ) → IsListed [] m ⊎ IsListed found m → IsListed found m
@@ -104,7 +104,7 @@ module _ {W : Type 0} (plan : Plan W) where
       one m (inr is) = is
 
   -- a node that was found, beside an empty list
-  pub found_held : (u : View W) (n : ℕ) (kept : List ℕ) → kept ≡ [] → IsHeld plan u (OnlyNode n) → IsHeld plan u (λ m. (m ≡ n) ⊎ IsListed kept m)
+  pub found_held : (u : SeatView W) (n : ℕ) (kept : List ℕ) → kept ≡ [] → IsHeld plan u (OnlyNode n) → IsHeld plan u (λ m. (m ≡ n) ⊎ IsListed kept m)
   found_held u n kept eq held =
       subst (λ l. IsHeld plan u (λ m. (m ≡ n) ⊎ IsListed l m)) (sym eq) (held_as u (OnlyNode n) (λ m. (m ≡ n) ⊎ IsListed [] m) (λ m is. inl is) back held)
     where
@@ -113,12 +113,12 @@ module _ {W : Type 0} (plan : Plan W) where
       back m (inr is) = absurd (true_false (sym is))
 
   -- what a round gave, beside an empty list
-  pub found_cases : (u : View W) (found : Option ℕ) (kept : List ℕ) → kept ≡ [] → MatchOption found (IsHeld plan u NoNode) (λ n. IsHeld plan u (OnlyNode n)) → MatchOption found (IsHeld plan u NoNode) (λ n. IsHeld plan u (λ m. (m ≡ n) ⊎ IsListed kept m))
+  pub found_cases : (u : SeatView W) (found : Option ℕ) (kept : List ℕ) → kept ≡ [] → MatchOption found (IsHeld plan u NoNode) (λ n. IsHeld plan u (OnlyNode n)) → MatchOption found (IsHeld plan u NoNode) (λ n. IsHeld plan u (λ m. (m ≡ n) ⊎ IsListed kept m))
   found_cases u None kept eq held = held
   found_cases u (Some n) kept eq held = found_held u n kept eq held
 
   -- other marks of nodes that are ready
-  pub held_through : (u v : View W) (P Q : ℕ → Type 0) → IsHeld plan u P → ((e : ℕ) → at v.outs e ≡ at u.outs e) → ((e : ℕ) → at v.late e ≡ at u.late e) → ((e : ℕ) → at v.ins e ≡ at u.ins e)
+  pub held_through : (u v : SeatView W) (P Q : ℕ → Type 0) → IsHeld plan u P → ((e : ℕ) → at v.outs e ≡ at u.outs e) → ((e : ℕ) → at v.late e ≡ at u.late e) → ((e : ℕ) → at v.ins e ≡ at u.ins e)
       → ((m : ℕ) → Q m → P m × (at v.nodes m ≡ Untaken))
       → ((m : ℕ) → Has v m → Q m ⊎ ((at v.nodes m ≡ at u.nodes m) × (P m → Q m)))
       → IsHeld plan v Q
@@ -136,7 +136,7 @@ module _ {W : Type 0} (plan : Plan W) where
       settle m below has (inr same) = settle_same m same.0 same.1 (held.settled m below (subst IsHadMark same.0 has))
 
   -- a node that was on offer
-  pub accepted_held : (u v : View W) (n : ℕ) → IsHeld plan u NoNode → v ≡ gets true n u → at u.nodes n ≡ Unmarked → IsUntouched plan u n → n < plan.nodes → 0 < inputs n plan.edges.items → IsHeld plan v (OnlyNode n)
+  pub accepted_held : (u v : SeatView W) (n : ℕ) → IsHeld plan u NoNode → v ≡ gets true n u → at u.nodes n ≡ Unmarked → IsUntouched plan u n → n < plan.nodes → 0 < inputs n plan.edges.items → IsHeld plan v (OnlyNode n)
   accepted_held u v n held eq fresh clean within input =
       subst (λ z. IsHeld plan z (OnlyNode n)) (sym eq) record {
         settled = λ m below has. dite (ℕ_discrete m n)
@@ -149,7 +149,7 @@ module _ {W : Type 0} (plan : Plan W) where
       settle m same (inl none) = absurd none
       settle m same (inr own) = inr (record { back = same ∙ own.back; delivered = own.delivered; late = own.late })
 
-  pub accepted_on : (u v : View W) (n : ℕ) → v ≡ gets true n u → at u.nodes n ≡ Unmarked → IsGoneOn u v
+  pub accepted_on : (u v : SeatView W) (n : ℕ) → v ≡ gets true n u → at u.nodes n ≡ Unmarked → IsGoneOn u v
   accepted_on u v n eq fresh =
       subst (IsGoneOn u) (sym eq) record {
         parts = refl;
@@ -157,7 +157,7 @@ module _ {W : Type 0} (plan : Plan W) where
       }
 
   -- a node that is put on offer, and is taken back where the test is true
-  module _ (u v : View W) (n : ℕ) (P : ℕ → Type 0) (absent : P n → ⊥) (held : IsHeld plan u (λ m. (m ≡ n) ⊎ P m)) where
+  module _ (u v : SeatView W) (n : ℕ) (P : ℕ → Type 0) (absent : P n → ⊥) (held : IsHeld plan u (λ m. (m ≡ n) ⊎ P m)) where
     own_ready : IsReady plan u n
     own_ready = held.ready n (inl refl)
 
@@ -198,11 +198,11 @@ module _ {W : Type 0} (plan : Plan W) where
     taken_back_on eq = subst (IsGoneOn u) (sym eq) record { parts = refl; back = λ m is. same_marks m ∙ is }
 
   -- seats are split and joined
-  pub less_held : (n : ℕ) (u v : View W) (P : ℕ → Type 0) → IsHeld plan u P → v ≡ less_parts n u → IsHeld plan v P
+  pub less_held : (n : ℕ) (u v : SeatView W) (P : ℕ → Type 0) → IsHeld plan u P → v ≡ less_parts n u → IsHeld plan v P
   less_held n u v P held eq =
       subst (λ z. IsHeld plan z P) (sym eq) (held_through u (less_parts n u) P P held (λ e. refl) (λ e. refl) (λ e. refl) (λ m is. (is, (held.ready m is).new.untaken)) (λ m has. inr (refl, λ is. is)))
 
-  pub part_held : (n : ℕ) (u v : View W) → v ≡ some_parts n u → IsHeld plan v NoNode
+  pub part_held : (n : ℕ) (u v : SeatView W) → v ≡ some_parts n u → IsHeld plan v NoNode
   part_held n u v eq =
       subst (λ z. IsHeld plan z NoNode) (sym eq) record {
         settled = λ m below has. absurd has;
@@ -219,7 +219,7 @@ module _ {W : Type 0} (plan : Plan W) where
   either_cases P PutBack b none some_mark = some_mark (λ e. cc)
   either_cases P Delivered b none some_mark = some_mark (λ e. cc)
 
-  module _ (u v : View W) (one : IsHeld plan u NoNode) (two : IsHeld plan v NoNode) (marks : IsMarkedByFrom plan u) (lates : IsLateByFrom plan u) where
+  module _ (u v : SeatView W) (one : IsHeld plan u NoNode) (two : IsHeld plan v NoNode) (marks : IsMarkedByFrom plan u) (lates : IsLateByFrom plan u) where
     -- an output edge of a node that the first does not have
     free_edge : (m : ℕ) → at u.nodes m ≡ Unmarked → (x : Edge) → x.from ≡ m → (mark : Mark) → Has u x.from ⊎ (mark ≡ Unmarked) → mark ≡ Unmarked
     free_edge m free x from mark (inl has) = absurd (subst IsHadMark (ap (λ k. at u.nodes k) from ∙ free) has)
@@ -241,7 +241,7 @@ module _ {W : Type 0} (plan : Plan W) where
       late = λ e x there from. at_merge u.late v.late e ∙ ap (λ a. either_mark a (at v.late e)) (free_edge m free x from (at u.late e) (lates e x there)) ∙ own.late e x there from;
     }
 
-    pub joined_held : (w : View W) → w ≡ both_views u v → IsHeld plan w NoNode
+    pub joined_held : (w : SeatView W) → w ≡ both_views u v → IsHeld plan w NoNode
     joined_held w eq =
         subst (λ z. IsHeld plan z NoNode) (sym eq) record {
           settled = λ m below has.
@@ -253,18 +253,18 @@ module _ {W : Type 0} (plan : Plan W) where
         }
 
   -- some parts of a seat go to another hand and come back
-  pub gone_apart : (n : ℕ) (u v a one two w : View W) → v ≡ less_parts n u → n < u.parts → one ≡ some_parts n u → IsGoneOn v a → IsGoneOn one two → w ≡ both_views a two → IsGoneOn u w
+  pub gone_apart : (n : ℕ) (u v a one two w : SeatView W) → v ≡ less_parts n u → n < u.parts → one ≡ some_parts n u → IsGoneOn v a → IsGoneOn one two → w ≡ both_views a two → IsGoneOn u w
   gone_apart n u v a one two w cut enough part on other sum =
       let mine = on.parts in
       let theirs = other.parts in
-      let less : v.parts ≡ u.parts - n = ap (λ (z : View W). z.parts) cut in
-      let given : one.parts ≡ n = ap (λ (z : View W). z.parts) part in
-      let all : w.parts ≡ a.parts + two.parts = ap (λ (z : View W). z.parts) sum in
+      let less : v.parts ≡ u.parts - n = ap (λ (z : SeatView W). z.parts) cut in
+      let given : one.parts ≡ n = ap (λ (z : SeatView W). z.parts) part in
+      let all : w.parts ≡ a.parts + two.parts = ap (λ (z : SeatView W). z.parts) sum in
       record {
         parts = omega (arith, less, enough, given, mine, theirs, all);
         back = λ m is.
-            let kept = on.back m (ap (λ (z : View W). at z.nodes m) cut ∙ is) in
-            ap (λ (z : View W). at z.nodes m) sum ∙ at_merge a.nodes two.nodes m ∙ ap (λ k. either_mark k (at two.nodes m)) kept;
+            let kept = on.back m (ap (λ (z : SeatView W). at z.nodes m) cut ∙ is) in
+            ap (λ (z : SeatView W). at z.nodes m) sum ∙ at_merge a.nodes two.nodes m ∙ ap (λ k. either_mark k (at two.nodes m)) kept;
       }
 
   -- what two hands give
@@ -274,14 +274,14 @@ module _ {W : Type 0} (plan : Plan W) where
       joined_held told.0.view told.1.view (subst (λ r. IfOk r (λ (t : SeatModel W). IsHeld plan t.view NoNode)) told.2 mine) (subst (λ r. IfOk r (λ (t : SeatModel W). IsHeld plan t.view NoNode)) told.3 theirs) told.4 told.5 s.view told.6
   joined_result_held one other (Err e) mine theirs told = tt
 
-  pub joined_result_on : {E : Type 0} → (n : ℕ) (u v part : View W) (one other result : Result (SeatModel W) E) → v ≡ less_parts n u → n < u.parts → part ≡ some_parts n u → IfOk one (λ (s : SeatModel W). IsGoneOn v s.view) → IfOk other (λ (s : SeatModel W). IsGoneOn part s.view)
+  pub joined_result_on : {E : Type 0} → (n : ℕ) (u v part : SeatView W) (one other result : Result (SeatModel W) E) → v ≡ less_parts n u → n < u.parts → part ≡ some_parts n u → IfOk one (λ (s : SeatModel W). IsGoneOn v s.view) → IfOk other (λ (s : SeatModel W). IsGoneOn part s.view)
       → IfOk result (IsJoined plan one other) → IfOk result (λ (s : SeatModel W). IsGoneOn u s.view)
   joined_result_on n u v part one other (Ok s) cut enough given mine theirs told =
       gone_apart n u v told.0.view part told.1.view s.view cut enough given (subst (λ r. IfOk r (λ (t : SeatModel W). IsGoneOn v t.view)) told.2 mine) (subst (λ r. IfOk r (λ (t : SeatModel W). IsGoneOn part t.view)) told.3 theirs) told.6
   joined_result_on n u v part one other (Err e) cut enough given mine theirs told = tt
 
   -- a node that was worked
-  module _ (u v : View W) (node : ℕ) (found : List ℕ) (P : ℕ → Type 0) (absent : P node → ⊥) (before : IsHeld plan u (λ m. (m ≡ node) ⊎ P m))
+  module _ (u v : SeatView W) (node : ℕ) (found : List ℕ) (P : ℕ → Type 0) (absent : P node → ⊥) (before : IsHeld plan u (λ m. (m ≡ node) ⊎ P m))
       (settled : IsSettled plan v node) (ready : (m : ℕ) → IsListed found m → IsReady plan v m) (came : (m : ℕ) → IsListed found m → at u.nodes m ≡ Unmarked)
       (others : KeepsOthers plan u v node found) where
     other_than : (m : ℕ) → P m → m ≢ node
@@ -334,7 +334,7 @@ module _ {W : Type 0} (plan : Plan W) where
     }
 
   -- with all parts: the nodes below one are put back, and then it is
-  module _ (u v : View W) (n : ℕ) (held : IsHeld plan u NoNode) (done : (m : ℕ) → m < n → at u.nodes m ≡ PutBack) (within : n < plan.nodes) where
+  module _ (u v : SeatView W) (n : ℕ) (held : IsHeld plan u NoNode) (done : (m : ℕ) → m < n → at u.nodes m ≡ PutBack) (within : n < plan.nodes) where
     pub all_delivered : ((e : ℕ) (x : Edge) → get_elem? plan.edges.items e ≡ some x → (x.from < x.to) × (x.to < plan.nodes)) → InputsDelivered plan u n
     all_delivered ends e x there goes =
         let up = (ends e x there).0 in
@@ -364,7 +364,7 @@ module _ {W : Type 0} (plan : Plan W) where
     more_done on here m less = dite (ℕ_discrete m n) (λ e. ap (λ k. at v.nodes k) e ∙ here) (λ ne. on.back m (done m (omega arith)))
 
   -- with each work put back, each edge was handed on late
-  pub all_late : (u : View W) → ((e : ℕ) (x : Edge) → get_elem? plan.edges.items e ≡ some x → (x.from < x.to) × (x.to < plan.nodes)) → IsHeld plan u NoNode → AllBack plan u → AllLate plan u
+  pub all_late : (u : SeatView W) → ((e : ℕ) (x : Edge) → get_elem? plan.edges.items e ≡ some x → (x.from < x.to) × (x.to < plan.nodes)) → IsHeld plan u NoNode → AllBack plan u → AllLate plan u
   all_late u ends held all e x there =
       let up = ends e x there in
       let below : x.from < plan.nodes = omega (arith, up) in
@@ -374,5 +374,5 @@ module _ {W : Type 0} (plan : Plan W) where
       settle (inl none) = absurd none
       settle (inr own) = own.late e x there refl
 
-  pub sources_still : (u v : View W) → IsGoneOn u v → SourcesBack plan u → SourcesBack plan v
+  pub sources_still : (u v : SeatView W) → IsGoneOn u v → SourcesBack plan u → SourcesBack plan v
   sources_still u v on sources m below is = on.back m (sources m below is)

@@ -75,9 +75,9 @@ impl Lesson<u32, Log> for Left {
 }
 
 /// One part is cut off, and comes back.
-pub(crate) struct Parting;
+pub(crate) struct LogSplit;
 
-impl Split<Log> for Parting {
+impl Split<Log> for LogSplit {
     ghost use Rattle.std.specs.Prelude.{◌-◌, []};
     ghost use Rattle.steal_workers.specs.Deques.{log};
 
@@ -86,7 +86,7 @@ impl Split<Log> for Parting {
     ghost right = { λ v. log 1 [] [] };
 }
 
-impl Join<Log> for Parting {
+impl Join<Log> for LogSplit {
     ghost use Rattle.std.specs.Prelude.{◌+◌, ◌++◌, []};
     ghost use Rattle.steal_workers.specs.Deques.{log};
 

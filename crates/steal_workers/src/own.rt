@@ -4,7 +4,7 @@ ghost use Rattle.std.specs.Prelude.{◌≡◌, ◌+◌, ◌<◌, [], ◌∷◌, 
 ghost use Rattle.crossbeam_deque.specs.Handles.{view, IsPassOf, stealer_deque, worker_deque, worker_view};
 ghost use Rattle.steal_workers.specs.Deques.{IsEven, IsPushed, IsRested, IsSameDeque, IsTaken, log};
 
-use crate::deques::{Deque, Left, Log, Parting, Popped, Pushed, Renewal, Thief};
+use crate::deques::{Deque, Left, Log, LogSplit, Popped, Pushed, Renewal, Thief};
 use crossbeam_deque::Pass;
 use std::alloc::{AllocError, Global};
 
@@ -60,7 +60,7 @@ impl Own {
         ensures of { IsPassOf (worker_deque self.old.deque) result }
         ensures pass { view result ≡ log 1 [] [] }
     {
-        self.deque.another::<Parting>()
+        self.deque.another::<LogSplit>()
     }
 
     /// Takes the parts of a pass back.
@@ -69,7 +69,7 @@ impl Own {
         ensures deque { worker_deque self.new.deque ≡ worker_deque self.old.deque }
         ensures parts { (worker_view self.new.deque).parts ≡ (worker_view self.old.deque).parts + (view pass).parts }
     {
-        self.deque.absorb::<Parting>(pass);
+        self.deque.absorb::<LogSplit>(pass);
     }
 
     /// Takes all numbers out of the deque, of which all parts are here, and begins its log anew.

@@ -25,9 +25,9 @@ enum Numbers<'a> {
 
 /// The nodes that an operator reads, in order of its inputs.
 #[derive(Drop)]
-pub struct Inputs<'a>(Numbers<'a>);
+pub struct InputNodes<'a>(Numbers<'a>);
 
-impl<'a> Model for Inputs<'a> {
+impl<'a> Model for InputNodes<'a> {
     ghost use Rattle.std.specs.Prelude.{List, ℕ};
     ghost use Rattle.tick_model.specs.Inputs.{listed};
 
@@ -36,7 +36,7 @@ impl<'a> Model for Inputs<'a> {
     ghost view = { λ inputs. listed inputs.0 };
 }
 
-impl<'a> Inputs<'a> {
+impl<'a> InputNodes<'a> {
     /// The numbers of the nodes.
     pub fn as_slice(&self) -> &[u32]
         ensures { result.now ≡ self.now }
@@ -86,21 +86,21 @@ fn as_of_columns_fit(
 
 impl Op {
     /// The nodes that it reads.
-    pub fn inputs(&self) -> Inputs<'_>
+    pub fn inputs(&self) -> InputNodes<'_>
         ensures { result ≡ inputs_of self.now }
     {
         match self {
-            Op::Source => Inputs(Numbers::Listed(&[])),
+            Op::Source => InputNodes(Numbers::Listed(&[])),
             Op::Keep { input, .. }
             | Op::View { input, .. }
             | Op::Agg { input, .. }
             | Op::Sort { input, .. }
             | Op::Head { input, .. }
-            | Op::Tail { input, .. } => Inputs(Numbers::One([*input])),
+            | Op::Tail { input, .. } => InputNodes(Numbers::One([*input])),
             Op::Join { left, right, .. } | Op::AsOf { left, right, .. } => {
-                Inputs(Numbers::Two([*left, *right]))
+                InputNodes(Numbers::Two([*left, *right]))
             }
-            Op::Merge { inputs } => Inputs(Numbers::Listed(inputs.as_slice())),
+            Op::Merge { inputs } => InputNodes(Numbers::Listed(inputs.as_slice())),
         }
     }
 

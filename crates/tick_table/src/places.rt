@@ -15,7 +15,7 @@ const FEW: usize = 8;
 /// A set of keys, in which a key is looked for from the range on that was come to last: keys that are asked for in rising order
 /// and lie near one another are found in one pass over the ranges. A contract sees the set.
 #[derive(Drop)]
-pub(crate) struct Places<'t> {
+pub(crate) struct KeyCursor<'t> {
     set: &'t RowSet,
     /// The ranges of the set.
     ranges: &'t [Range],
@@ -25,7 +25,7 @@ pub(crate) struct Places<'t> {
     before: u64,
 }
 
-impl<'t> Model for Places<'t> {
+impl<'t> Model for KeyCursor<'t> {
     ghost use Rattle.std.specs.Prelude.{List, ℕ};
     ghost use Rattle.tick_table.specs.Places.{IsPassing};
 
@@ -65,12 +65,12 @@ fn found_at(ranges: &[Range], index: usize, before: u64, key: u64) -> Result<u64
     }
 }
 
-impl<'t> Places<'t> {
+impl<'t> KeyCursor<'t> {
     /// A set of which no key was asked for.
-    pub(crate) fn of(set: &'t RowSet) -> Places<'t>
+    pub(crate) fn of(set: &'t RowSet) -> KeyCursor<'t>
         ensures { result ≡ set.now }
     {
-        Places {
+        KeyCursor {
             set,
             ranges: set.ranges(),
             passed: 0,

@@ -8,7 +8,7 @@ ghost use Rattle.key_lists.specs.Keys.{is_among};
 ghost use Rattle.tick_model.specs.Tables.{cells_at, keys};
 ghost use Rattle.tick_table.specs.Versions.{table_in};
 
-use crate::places::Places;
+use crate::places::KeyCursor;
 use crate::steps::Steps;
 use crate::table::{TickTable, read_all};
 use crate::version::Version;
@@ -21,9 +21,9 @@ pub struct RowReader<'t> {
     table: &'t TickTable,
     version: Version,
     /// The keys of the rows that this version alone has.
-    alone: Places<'t>,
+    alone: KeyCursor<'t>,
     /// The keys now of the rows that stay and differ.
-    modified: Places<'t>,
+    modified: KeyCursor<'t>,
 }
 
 impl<'t> Model for RowReader<'t> {
@@ -51,8 +51,8 @@ impl<'t> RowReader<'t> {
         RowReader {
             table,
             version,
-            alone: Places::of(alone),
-            modified: Places::of(update.modified()),
+            alone: KeyCursor::of(alone),
+            modified: KeyCursor::of(update.modified()),
         }
     }
 

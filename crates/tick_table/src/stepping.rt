@@ -13,7 +13,7 @@ ghost use Rattle.tick_model.specs.Updates.{removing};
 ghost use Rattle.tick_table.specs.Placed.{paired, put_rows, stayed, stepped};
 
 use crate::placed::PlacedRows;
-use crate::places::Places;
+use crate::places::KeyCursor;
 use row_set::RowSet;
 use std::alloc::AllocError;
 use table_update::Update;
@@ -64,7 +64,7 @@ fn remove_rows(placed: &mut PlacedRows, rows: &RowSet, removed: &RowSet) -> Resu
     ensures saved { OnOk result (placed.new.saved ≡ placed.old.saved) }
 {
     let _ = rows.ranges();
-    let mut places = Places::of(rows);
+    let mut places = KeyCursor::of(rows);
     let mut start = 0;
     let mut count = 0;
     for key in removed {
@@ -105,7 +105,7 @@ fn add_rows<'a>(
     }
     let _ = rows.ranges();
     let mut rest = cells;
-    let mut places = Places::of(rows);
+    let mut places = KeyCursor::of(rows);
     for key in added {
         let position = places.position_of(key);
         let (row, others) = rest.split_at(placed.width());
@@ -176,7 +176,7 @@ fn modify_rows(
 {
     let _ = rows.ranges();
     let mut rest = cells;
-    let mut places = Places::of(rows);
+    let mut places = KeyCursor::of(rows);
     for key in modified {
         let position = places.position_of(key);
         let (row, others) = rest.split_at(placed.width());

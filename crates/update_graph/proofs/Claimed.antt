@@ -3,12 +3,12 @@ use Rattle.std.proofs.Common.{◌≡◌, ap, sym, ◌∙◌, subst, ℕ, ◌+◌
 use Rattle.std.proofs.lemmas.List.{get_or_default}
 use mathlib.Core.Option.{some}
 use lib.ListN.{get_elem?}
-use Rattle.graph_words.{specs.declared.graph.Edge.Edge, specs.declared.graph.Plan.Plan, specs.Marks.inputs}
+use Rattle.graph_words.{specs.declared.graph.Edge.Edge, specs.declared.graph.ClaimPlan.ClaimPlan, specs.Marks.inputs}
 use Rattle.tick_model.{specs.declared.feed.Run.Run, specs.declared.plan.Node.Node, specs.Evaluation.is_source, specs.Operators.inputs_of}
 use Rattle.update_graph.{specs.Crews.StepView, specs.Edges.{edges_of, froms_to}, specs.Entered.IsEntered, specs.Holdings.{IsClaimed, IsForStep}, specs.Tags.{Kept, Tag, is_operator, named, no_node, op_at, tag}, proofs.ClaimedWorks.as_tag, proofs.PlanEdges.{edge_ends, edge_into, few_edges, goes_to_operator, input_froms, no_inputs}, proofs.PlanLimits.few_nodes}
 
 -- claims for a step of a run
-module _ (run : Run) (plan : Plan Kept) (s : IsForStep run plan) where
+module _ (run : Run) (plan : ClaimPlan Kept) (s : IsForStep run plan) where
   pub few_of_step : length plan.edges.items < 2 ^ 32
   few_of_step = subst (λ l. length l < 2 ^ 32) (sym s.edges) (few_edges run s.entered.lawful)
 
@@ -53,7 +53,7 @@ module _ (run : Run) (plan : Plan Kept) (s : IsForStep run plan) where
   next_tagged next n same = (ap (λ (t : Tag). t.run) same ∙ sym s.of_run, ap (λ (t : Tag). t.node) same, ap (λ (t : Tag). t.step) same)
 
 -- what the hands of a crew work by is for the step of the claims
-pub step_of_view : (plan : Plan Kept) {own : Run} {step : ℕ} {edges : List Edge} {view : StepView} → record { run = own; step = step; edges = edges } ≡ view → IsEntered own step × (edges ≡ edges_of own.plan)
+pub step_of_view : (plan : ClaimPlan Kept) {own : Run} {step : ℕ} {edges : List Edge} {view : StepView} → record { run = own; step = step; edges = edges } ≡ view → IsEntered own step × (edges ≡ edges_of own.plan)
     → plan.first.value.run ≡ view.run → plan.first.value.step + 1 ≡ view.step → plan.edges.items ≡ view.edges → IsForStep own plan
 step_of_view plan {own} seen work run_is step_is edges_is =
     record {
@@ -62,7 +62,7 @@ step_of_view plan {own} seen work run_is step_is edges_is =
       edges = edges_is ∙ sym (ap (λ (v : StepView). v.edges) seen) ∙ work.1;
     }
 
-module _ (run : Run) (plan : Plan Kept) (c : IsClaimed run plan) where
+module _ (run : Run) (plan : ClaimPlan Kept) (c : IsClaimed run plan) where
   pub run_is : plan.first.value.run ≡ run
   run_is = ap (λ (t : Tag). t.run) c.first
 

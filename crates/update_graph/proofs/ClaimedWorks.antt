@@ -3,7 +3,7 @@ use Rattle.std.proofs.Common.{◌≡◌, refl, ap, ap₂, sym, ◌∙◌, subst,
 use Rattle.std.{specs.List.range_with_len, proofs.lemmas.Bool.eqb-true, proofs.lemmas.List.length-map, proofs.lemmas.List.FromFn.length-map-range_with_len}
 use mathlib.Core.Option.{some, some-injective, some-ne-none}
 use lib.ListN.{get_elem?}
-use Rattle.graph_words.{specs.declared.graph.Plan.Plan, specs.Rule.{IsTagged, tags as tags_by}}
+use Rattle.graph_words.{specs.declared.graph.ClaimPlan.ClaimPlan, specs.Rule.{IsTagged, tags as tags_by}}
 use Rattle.tick_model.specs.declared.feed.Run.{Run}
 use Rattle.update_graph.{specs.Edges.edges_of, specs.Entered.IsEntered, specs.Holdings.IsClaimed, specs.Stands.Follows, specs.Tags.{Kept, Tag, named, tag, tags}}
 
@@ -51,7 +51,7 @@ works_tagged run step works same n m w u there other =
     let b = work_at run step works m u same other in
     (ap (λ (t : Tag). t.run) a ∙ ap (λ (t : Tag). t.run) (sym b), ap (λ (t : Tag). t.node) a, ap (λ (t : Tag). t.step) a ∙ ap (λ (t : Tag). t.step) (sym b))
 
-pub claimed : (run : Run) (step : ℕ) (works : List Kept) (plan : Plan Kept) → IsEntered run step → 1 ≤ step → map named works ≡ tags run (step - 1) (length works) → get_elem? works 0 ≡ some plan.first.value → plan.nodes ≡ length run.plan.nodes → plan.edges.items ≡ edges_of run.plan
+pub claimed : (run : Run) (step : ℕ) (works : List Kept) (plan : ClaimPlan Kept) → IsEntered run step → 1 ≤ step → map named works ≡ tags run (step - 1) (length works) → get_elem? works 0 ≡ some plan.first.value → plan.nodes ≡ length run.plan.nodes → plan.edges.items ≡ edges_of run.plan
     → IsClaimed run plan × (step ≡ plan.first.value.step + 1)
 claimed run step works plan entered later same first nodes edges =
     let own = work_at run (step - 1) works 0 plan.first.value same first in

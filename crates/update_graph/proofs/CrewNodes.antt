@@ -5,7 +5,7 @@ use mathlib.Core.Logic.{dite}
 use mathlib.Core.Option.{some, some-injective}
 use native.Mathlib.Decide.{ℕ_discrete}
 use lib.ListN.{get_elem?}
-use Rattle.graph_words.{specs.declared.graph.Edge.Edge, specs.declared.graph.Plan.Plan, specs.declared.table.Mark.TheVariants.{Unmarked, Untaken, PutBack, Delivered}, specs.declared.table.View.View, specs.Marks.{IsHadMark, at, put}, specs.Seats.Has, proofs.Marks.{at_put, at_put_else, some_input, below_of}}
+use Rattle.graph_words.{specs.declared.graph.Edge.Edge, specs.declared.graph.ClaimPlan.ClaimPlan, specs.declared.table.Mark.TheVariants.{Unmarked, Untaken, PutBack, Delivered}, specs.declared.table.SeatView.SeatView, specs.Marks.{IsHadMark, at, put}, specs.Seats.Has, proofs.Marks.{at_put, at_put_else, some_input, below_of}}
 use Rattle.steal_workers.{specs.Holdings.{IsReady, IsSettled, KeepsOthers}, specs.Lists.IsListed, proofs.Listing.{listed_cases, listed_first, listed_last, true_false}, proofs.Holding.has_mark}
 use Rattle.update_graph.{specs.Edges.comes_from, specs.Steps.{IsDelivered, IsHandedOver, IsHanding, IsListing, IsWorked}, specs.Tags.Kept, proofs.Handing.{apart, had_marked, late_apart, out_at, still_untaken, untouched_still}, proofs.PlanEdges.item_there, proofs.Walking.no_edge}
 
@@ -30,7 +30,7 @@ module _ (xs : List ℕ) where
   grown_last found m is = subst (λ o. IsListed (xs ++ option_to_list o) m) (sym is) (listed_last xs m)
 
 -- the edges of a node are delivered
-module _ (plan : Plan Kept) (u : View Kept) (node : ℕ) where
+module _ (plan : ClaimPlan Kept) (u : SeatView Kept) (node : ℕ) where
   pub listing_none : IsListing plan u u node 0 []
   listing_none = record {
     ins = refl;
@@ -47,7 +47,7 @@ module _ (plan : Plan Kept) (u : View Kept) (node : ℕ) where
     ready = λ m is. absurd (true_false (sym is));
   }
 
-  pub listing_skip : (v : View Kept) (count : ℕ) (x : Edge) (xs : List ℕ) → IsListing plan u v node count xs → get_elem? plan.edges.items count ≡ some x → x.from ≢ node → IsListing plan u v node (count + 1) xs
+  pub listing_skip : (v : SeatView Kept) (count : ℕ) (x : Edge) (xs : List ℕ) → IsListing plan u v node count xs → get_elem? plan.edges.items count ≡ some x → x.from ≢ node → IsListing plan u v node (count + 1) xs
   listing_skip v count x xs h there other_from = record {
     ins = h.ins;
     parts = h.parts;
@@ -67,7 +67,7 @@ module _ (plan : Plan Kept) (u : View Kept) (node : ℕ) where
       elsewhere e y at_y from c = other_from (ap (λ (z : Edge). z.from) (some-injective x y (sym there ∙ ap (λ k. get_elem? plan.edges.items k) (sym c) ∙ at_y)) ∙ from)
 
   -- one more edge is delivered
-  module _ (v w : View Kept) (count to : ℕ) (x : Edge) (xs : List ℕ) (found : Option ℕ) (h : IsListing plan u v node count xs) (o : IsDelivered plan v w count to found)
+  module _ (v w : SeatView Kept) (count to : ℕ) (x : Edge) (xs : List ℕ) (found : Option ℕ) (h : IsListing plan u v node count xs) (o : IsDelivered plan v w count to found)
       (there : get_elem? plan.edges.items count ≡ some x) (from_is : x.from ≡ node) (to_is : x.to ≡ to) (up : x.from < x.to) (below : x.to < plan.nodes) where
     abbrev ys : List ℕ
     ys = xs ++ option_to_list found
@@ -150,7 +150,7 @@ module _ (plan : Plan Kept) (u : View Kept) (node : ℕ) where
     }
 
   -- what is listed is had
-  pub listing_had : (v : View Kept) (count : ℕ) (xs : List ℕ) → IsListing plan u v node count xs → (m : ℕ) → IsListed xs m → Has v m
+  pub listing_had : (v : SeatView Kept) (count : ℕ) (xs : List ℕ) → IsListing plan u v node count xs → (m : ℕ) → IsListed xs m → Has v m
   listing_had v count xs h m is = has_mark (at v.nodes m) Untaken (h.ready m is).new.untaken tt
 
   -- and the nodes that this makes ready are added to a list
@@ -158,12 +158,12 @@ module _ (plan : Plan Kept) (u : View Kept) (node : ℕ) where
     pub handing_none : IsHanding plan u u node 0 xs xs
     handing_none = record { found = []; listing = listing_none; listed = sym (append-nil xs) }
 
-    pub handing_past : (v : View Kept) (zs : List ℕ) (e : ℕ) → e < length plan.edges.items → comes_from node (get_or plan.edges.items e no_edge) ≡ false → IsHanding plan u v node e xs zs → IsHanding plan u v node (e + 1) xs zs
+    pub handing_past : (v : SeatView Kept) (zs : List ℕ) (e : ℕ) → e < length plan.edges.items → comes_from node (get_or plan.edges.items e no_edge) ≡ false → IsHanding plan u v node e xs zs → IsHanding plan u v node (e + 1) xs zs
     handing_past v zs e within other h =
         let edge = get_or plan.edges.items e no_edge in
         record { found = h.found; listing = listing_skip v e edge h.found h.listing (item_there plan.edges.items e no_edge within) (eqb-false edge.from node other); listed = h.listed }
 
-    pub handing_more : (v w : View Kept) (count to : ℕ) (x : Edge) (zs more : List ℕ) → IsHanding plan u v node count xs zs → IsHandedOver plan v w count to zs more
+    pub handing_more : (v w : SeatView Kept) (count to : ℕ) (x : Edge) (zs more : List ℕ) → IsHanding plan u v node count xs zs → IsHandedOver plan v w count to zs more
         → get_elem? plan.edges.items count ≡ some x → x.from ≡ node → x.to ≡ to → x.from < x.to → x.to < plan.nodes → IsHanding plan u w node (count + 1) xs more
     handing_more v w count to x zs more h over there from_is to_is up below = record {
       found = h.found ++ option_to_list over.found;
@@ -171,7 +171,7 @@ module _ (plan : Plan Kept) (u : View Kept) (node : ℕ) where
       listed = over.listed ∙ ap (λ l. l ++ option_to_list over.found) h.listed ∙ append_assoc xs h.found (option_to_list over.found);
     }
 
-    pub handing_had : (v : View Kept) (count : ℕ) (zs : List ℕ) → IsHanding plan u v node count xs zs → ((m : ℕ) → IsListed xs m → Has u m) → (m : ℕ) → IsListed zs m → Has v m
+    pub handing_had : (v : SeatView Kept) (count : ℕ) (zs : List ℕ) → IsHanding plan u v node count xs zs → ((m : ℕ) → IsListed xs m → Has u m) → (m : ℕ) → IsListed zs m → Has v m
     handing_had v count zs h had m is = go (listed_either xs h.found m (subst (λ l. IsListed l m) h.listed is))
       where
         go : IsListed xs m ⊎ IsListed h.found m → Has v m
@@ -179,11 +179,11 @@ module _ (plan : Plan Kept) (u : View Kept) (node : ℕ) where
         go (inr own) = listing_had v count h.found h.listing m own
 
     -- from the empty list on
-    pub handing_all : (v : View Kept) (count : ℕ) (zs : List ℕ) → IsHanding plan u v node count xs zs → xs ≡ [] → IsListing plan u v node count zs
+    pub handing_all : (v : SeatView Kept) (count : ℕ) (zs : List ℕ) → IsHanding plan u v node count xs zs → xs ≡ [] → IsListing plan u v node count zs
     handing_all v count zs h empty = subst (IsListing plan u v node count) (sym (h.listed ∙ ap (λ l. l ++ h.found) empty)) h.listing
 
 -- a node whose work is put back and whose edges are delivered
-module _ (plan : Plan Kept) (node : ℕ) (u c d : View Kept) (found : List ℕ) (own : IsReady plan u node) (w : IsWorked plan u c node) (l : IsListing plan c d node (length plan.edges.items) found) where
+module _ (plan : ClaimPlan Kept) (node : ℕ) (u c d : SeatView Kept) (found : List ℕ) (own : IsReady plan u node) (w : IsWorked plan u c node) (l : IsListing plan c d node (length plan.edges.items) found) where
   pub listed_settled : IsSettled plan d node
   listed_settled = record {
     back = l.stays node (has_mark (at c.nodes node) PutBack w.back tt) ∙ w.back;

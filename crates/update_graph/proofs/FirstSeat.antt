@@ -5,7 +5,7 @@ use mathlib.Core.Logic.{dite}
 use mathlib.Core.Option.{some}
 use native.Mathlib.Decide.{ℕ_discrete}
 use lib.ListN.{get_elem?}
-use Rattle.graph_words.{specs.declared.graph.Edge.Edge, specs.declared.graph.Plan.Plan, specs.declared.table.Mark.TheVariants.{Untaken, Taken, PutBack}, specs.declared.table.View.View, specs.Marks.{IsHadMark, at, inputs, start_mark}, specs.Seats.Has, specs.Views.{first_view, mark_node}, proofs.Marks.{at_put, at_put_else, below_of}, proofs.Opens.at_starts}
+use Rattle.graph_words.{specs.declared.graph.Edge.Edge, specs.declared.graph.ClaimPlan.ClaimPlan, specs.declared.table.Mark.TheVariants.{Untaken, Taken, PutBack}, specs.declared.table.SeatView.SeatView, specs.Marks.{IsHadMark, at, inputs, start_mark}, specs.Seats.Has, specs.Views.{first_view, mark_node}, proofs.Marks.{at_put, at_put_else, below_of}, proofs.Opens.at_starts}
 use Rattle.steal_workers.{specs.Holdings.{IsHeld, IsNew, IsReady, IsSettled, SourcesBack}, specs.Lists.IsListed, proofs.Listing.{listed_first, listed_second, true_false}, proofs.Holding.has_mark}
 use Rattle.tick_model.specs.declared.feed.Run.{Run}
 use Rattle.update_graph.{specs.Edges.edges_of, specs.Holdings.{IsClaimed, IsOpened, IsUnopened}, specs.Steps.{IsHanding, IsListing}, specs.Tags.{Kept, is_operator}, proofs.Claimed.source_claimed, proofs.CrewNodes.listed_either, proofs.PlanEdges.{no_inputs, source_inputs}}
@@ -14,7 +14,7 @@ start_none : (n : ℕ) → IsHadMark (start_mark n) → n ≡ 0
 start_none zero has = refl
 start_none (suc n) has = absurd has
 
-module _ (run : Run) (plan : Plan Kept) (claimed : IsClaimed run plan) where
+module _ (run : Run) (plan : ClaimPlan Kept) (claimed : IsClaimed run plan) where
   inputs_in : (n : ℕ) → inputs n plan.edges.items ≡ inputs n (edges_of run.plan)
   inputs_in n = ap (inputs n) claimed.edges
 
@@ -43,7 +43,7 @@ module _ (run : Run) (plan : Plan Kept) (claimed : IsClaimed run plan) where
   }
 
   -- a source is not ready as a node with input edges is
-  module _ (v : View Kept) (n : ℕ) (xs : List ℕ) (o : IsOpened run plan v n xs) where
+  module _ (v : SeatView Kept) (n : ℕ) (xs : List ℕ) (o : IsOpened run plan v n xs) where
     pub source_unlisted : (m : ℕ) → is_operator run m ≡ false → IsListed xs m → ⊥
     source_unlisted m is there =
         let own = o.ready m there in
@@ -92,35 +92,35 @@ module _ (run : Run) (plan : Plan Kept) (claimed : IsClaimed run plan) where
     opened_had m there = has_mark (at v.nodes m) Untaken (o.ready m there).new.untaken tt
 
     -- what is listed is had while the next source is opened
-    pub opened_kept : is_operator run n ≡ false → (a c : View Kept) → a ≡ mark_node v n Taken → c ≡ mark_node a n PutBack → (m : ℕ) → IsListed xs m → Has c m
+    pub opened_kept : is_operator run n ≡ false → (a c : SeatView Kept) → a ≡ mark_node v n Taken → c ≡ mark_node a n PutBack → (m : ℕ) → IsListed xs m → Has c m
     opened_kept source_n a c taken put_back m there =
         let ne : m ≢ n = λ e. source_unlisted n source_n (subst (IsListed xs) e there) in
         let same =
-        ap (λ (z : View Kept). at z.nodes m) put_back ∙ at_put_else a.nodes n m PutBack ne
-        ∙ ap (λ (z : View Kept). at z.nodes m) taken ∙ at_put_else v.nodes n m Taken ne in
+        ap (λ (z : SeatView Kept). at z.nodes m) put_back ∙ at_put_else a.nodes n m PutBack ne
+        ∙ ap (λ (z : SeatView Kept). at z.nodes m) taken ∙ at_put_else v.nodes n m Taken ne in
         has_mark (at c.nodes m) (at v.nodes m) same (opened_had m there)
 
   -- one more source is opened
-  module _ (n : ℕ) (u a c d : View Kept) (xs ys : List ℕ) (o : IsOpened run plan u n xs) (source_n : is_operator run n ≡ false) (taken : a ≡ mark_node u n Taken) (put_back : c ≡ mark_node a n PutBack) (h : IsHanding plan c d n (length plan.edges.items) xs ys) where
+  module _ (n : ℕ) (u a c d : SeatView Kept) (xs ys : List ℕ) (o : IsOpened run plan u n xs) (source_n : is_operator run n ≡ false) (taken : a ≡ mark_node u n Taken) (put_back : c ≡ mark_node a n PutBack) (h : IsHanding plan c d n (length plan.edges.items) xs ys) where
     l : IsListing plan c d n (length plan.edges.items) h.found
     l = h.listing
 
     late_same : (e : ℕ) → at c.late e ≡ at u.late e
-    late_same e = ap (λ (z : View Kept). at z.late e) put_back ∙ ap (λ (z : View Kept). at z.late e) taken
+    late_same e = ap (λ (z : SeatView Kept). at z.late e) put_back ∙ ap (λ (z : SeatView Kept). at z.late e) taken
 
     outs_same : (e : ℕ) → at c.outs e ≡ at u.outs e
-    outs_same e = ap (λ (z : View Kept). at z.outs e) put_back ∙ ap (λ (z : View Kept). at z.outs e) taken
+    outs_same e = ap (λ (z : SeatView Kept). at z.outs e) put_back ∙ ap (λ (z : SeatView Kept). at z.outs e) taken
 
     ins_same : (e : ℕ) → at d.ins e ≡ at u.ins e
-    ins_same e = ap (λ k. at k e) l.ins ∙ ap (λ (z : View Kept). at z.ins e) put_back ∙ ap (λ (z : View Kept). at z.ins e) taken
+    ins_same e = ap (λ k. at k e) l.ins ∙ ap (λ (z : SeatView Kept). at z.ins e) put_back ∙ ap (λ (z : SeatView Kept). at z.ins e) taken
 
     nodes_same : (m : ℕ) → m ≢ n → at c.nodes m ≡ at u.nodes m
     nodes_same m other =
-        ap (λ (z : View Kept). at z.nodes m) put_back ∙ at_put_else a.nodes n m PutBack other
-        ∙ ap (λ (z : View Kept). at z.nodes m) taken ∙ at_put_else u.nodes n m Taken other
+        ap (λ (z : SeatView Kept). at z.nodes m) put_back ∙ at_put_else a.nodes n m PutBack other
+        ∙ ap (λ (z : SeatView Kept). at z.nodes m) taken ∙ at_put_else u.nodes n m Taken other
 
     back_here : at c.nodes n ≡ PutBack
-    back_here = ap (λ (z : View Kept). at z.nodes n) put_back ∙ at_put a.nodes n PutBack
+    back_here = ap (λ (z : SeatView Kept). at z.nodes n) put_back ∙ at_put a.nodes n PutBack
 
     had_here : Has c n
     had_here = has_mark (at c.nodes n) PutBack back_here tt
@@ -175,7 +175,7 @@ module _ (run : Run) (plan : Plan Kept) (claimed : IsClaimed run plan) where
 
     pub opened_more : IsOpened run plan d (n + 1) ys
     opened_more = record {
-      parts = l.parts ∙ ap (λ (z : View Kept). z.parts) put_back ∙ ap (λ (z : View Kept). z.parts) taken ∙ o.parts;
+      parts = l.parts ∙ ap (λ (z : SeatView Kept). z.parts) put_back ∙ ap (λ (z : SeatView Kept). z.parts) taken ∙ o.parts;
       settled = λ m less within has. dite (ℕ_discrete m n)
           (λ e. inr (subst (IsSettled plan d) (sym e) settled_here))
           (λ ne. settled_came m less within ne has (l.came m));

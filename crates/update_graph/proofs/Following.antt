@@ -2,7 +2,7 @@
 use Rattle.std.proofs.Common.{◌≡◌, refl, ap, sym, ◌∙◌, subst, ℕ, zero, suc, ◌<◌, arith, true, false, true≢false, List, [], ◌∷◌, ◌++◌, map, length, get_or, None}
 use Rattle.std.{proofs.lemmas.List.get_or-map, specs.Prelude.{IfOk, Result, Ok, Err}}
 use mathlib.Core.Option.{some-injective, some-ne-none}
-use Rattle.graph_words.{specs.declared.graph.Plan.Plan, specs.Rule.{FollowsGiven, IsGiven}}
+use Rattle.graph_words.{specs.declared.graph.ClaimPlan.ClaimPlan, specs.Rule.{FollowsGiven, IsGiven}}
 use Rattle.tick_laws.proofs.ReachedTables.{reached_tables}
 use Rattle.tick_model.{specs.declared.feed.Run.Run, specs.Spoiled.node_fault, specs.States.state}
 use Rattle.update_graph.{specs.Entered.IsEntered, specs.Graphs.SteppedOnce, specs.Stands.{Follows, ForEach, HasReadOnce, is_defined}, specs.Sweeps.GrowsBy, specs.Tags.{Kept, Tag, all_reads, is_operator, named, tag, tags}, proofs.ClaimedWorks.{count_works, whole_works, work_at}, proofs.PlanEdges.item_there, proofs.Sweeping.reached_here}
@@ -29,7 +29,7 @@ pub source_follows : (old new : Kept) → is_operator new.run new.node ≡ false
 source_follows old new none is = absurd (true≢false (sym is ∙ none))
 
 -- a work follows the one that was given, which is the one that was taken
-pub follows_taken : (plan : Plan Kept) (n : ℕ) (work new : Kept) → IsGiven plan n work → Follows work new → FollowsGiven Follows plan n new
+pub follows_taken : (plan : ClaimPlan Kept) (n : ℕ) (work new : Kept) → IsGiven plan n work → Follows work new → FollowsGiven Follows plan n new
 follows_taken plan n work new taken follows old given = subst (λ (w : Kept). Follows w new) (some-injective work old (sym taken ∙ given)) follows
 
 -- one more of each list

@@ -3,15 +3,15 @@ use Rattle.std.proofs.Common.{◌≡◌, ◌≢◌, ℕ, ◌+◌, ◌<◌, Bool,
 use Rattle.std.{proofs.lemmas.Bool.{eqb-false, eqb-true}, proofs.lemmas.List.map_push, proofs.lemmas.Option.{same_Some, none-some}}
 use mathlib.Core.Option.{some, some-injective}
 use lib.ListN.{get_elem?}
-use Rattle.graph_words.{specs.declared.graph.Edge.Edge, specs.declared.graph.Plan.Plan, specs.declared.table.Mark.Mark, specs.declared.table.Mark.TheVariants.{Unmarked, Untaken, Taken, PutBack, Delivered}, specs.declared.table.View.View, specs.Marks.{IsHadMark, at, put}, specs.Views.{IsUntouched, gets, mark_in, mark_late, mark_node, mark_out}, proofs.Marks.{at_put, at_put_else}}
+use Rattle.graph_words.{specs.declared.graph.Edge.Edge, specs.declared.graph.ClaimPlan.ClaimPlan, specs.declared.table.Mark.Mark, specs.declared.table.Mark.TheVariants.{Unmarked, Untaken, Taken, PutBack, Delivered}, specs.declared.table.SeatView.SeatView, specs.Marks.{IsHadMark, at, put}, specs.Views.{IsUntouched, gets, mark_in, mark_late, mark_node, mark_out}, proofs.Marks.{at_put, at_put_else}}
 use Rattle.update_graph.{specs.Edges.{froms_to, goes_to}, specs.Steps.{IsBegun, IsDelivered, IsTaking, IsWorked}, specs.Tags.{Kept, Tag}, proofs.PlanEdges.{item_there, froms_more, froms_same}, proofs.Walking.no_edge}
 
 -- shares are taken
-module _ (edges : List Edge) (u : View Kept) (node : ℕ) where
+module _ (edges : List Edge) (u : SeatView Kept) (node : ℕ) where
   pub taking_none : IsTaking edges u u node 0
   taking_none = record { nodes = refl; outs = refl; late = refl; parts = refl; later = λ e more. refl; others = λ e x there apart. refl }
 
-  pub taking_more : (v w : View Kept) (count : ℕ) (x : Edge) → IsTaking edges u v node count → get_elem? edges count ≡ some x → x.to ≡ node → w ≡ mark_in v count Taken → IsTaking edges u w node (count + 1)
+  pub taking_more : (v w : SeatView Kept) (count : ℕ) (x : Edge) → IsTaking edges u v node count → get_elem? edges count ≡ some x → x.to ≡ node → w ≡ mark_in v count Taken → IsTaking edges u w node (count + 1)
   taking_more v w count x t there goes eq =
       subst (λ z. IsTaking edges u z node (count + 1)) (sym eq) record {
         nodes = t.nodes;
@@ -24,18 +24,18 @@ module _ (edges : List Edge) (u : View Kept) (node : ℕ) where
             at_put_else v.ins count e Taken other ∙ t.others e y at_y apart;
       }
 
-  pub taking_skip : (v : View Kept) (count : ℕ) → IsTaking edges u v node count → IsTaking edges u v node (count + 1)
+  pub taking_skip : (v : SeatView Kept) (count : ℕ) → IsTaking edges u v node count → IsTaking edges u v node (count + 1)
   taking_skip v count t = record { nodes = t.nodes; outs = t.outs; late = t.late; parts = t.parts; later = λ e more. t.later e (omega arith); others = t.others }
 
   -- and these shares were taken
   module _ (named : ℕ → Tag) where
-    abbrev pub HasTaken : View Kept → List Tag → ℕ → Type 0
+    abbrev pub HasTaken : SeatView Kept → List Tag → ℕ → Type 0
     HasTaken v shares place = IsTaking edges u v node place × (shares ≡ map named (froms_to node (take place edges)))
 
-    pub taken_past : (v : View Kept) (shares : List Tag) (e : ℕ) → e < length edges → goes_to node (get_or edges e no_edge) ≡ false → HasTaken v shares e → HasTaken v shares (e + 1)
+    pub taken_past : (v : SeatView Kept) (shares : List Tag) (e : ℕ) → e < length edges → goes_to node (get_or edges e no_edge) ≡ false → HasTaken v shares e → HasTaken v shares (e + 1)
     taken_past v shares e within other h = (taking_skip v e h.0, h.1 ∙ ap (map named) (sym (froms_same node e edges no_edge within (eqb-false (get_or edges e no_edge).to node other))))
 
-    pub taken_more : (v w : View Kept) (shares more : List Tag) (share : Tag) (e : ℕ) → e < length edges → goes_to node (get_or edges e no_edge) ≡ true → HasTaken v shares e
+    pub taken_more : (v w : SeatView Kept) (shares more : List Tag) (share : Tag) (e : ℕ) → e < length edges → goes_to node (get_or edges e no_edge) ≡ true → HasTaken v shares e
         → w ≡ mark_in v e Taken → share ≡ named (get_or edges e no_edge).from → more ≡ shares ++ share ∷ [] → HasTaken w more (e + 1)
     taken_more v w shares more share e within goes h marked share_is more_is =
         let to_is = eqb-true (get_or edges e no_edge).to node goes in (
@@ -44,27 +44,27 @@ module _ (edges : List Edge) (u : View Kept) (node : ℕ) where
         )
 
 -- a node whose shares are taken, and then its work
-pub begun_is : (plan : Plan Kept) (edges : List Edge) (u a b : View Kept) (node count : ℕ) → edges ≡ plan.edges.items → IsTaking edges u a node count → b ≡ mark_node a node Taken → IsBegun plan u b node
+pub begun_is : (plan : ClaimPlan Kept) (edges : List Edge) (u a b : SeatView Kept) (node count : ℕ) → edges ≡ plan.edges.items → IsTaking edges u a node count → b ≡ mark_node a node Taken → IsBegun plan u b node
 begun_is plan edges u a b node count same t taken = record {
-  parts = ap (λ (z : View Kept). z.parts) taken ∙ t.parts;
-  nodes = ap (λ (z : View Kept). z.nodes) taken ∙ ap (λ l. put l node Taken) t.nodes;
-  outs = ap (λ (z : View Kept). z.outs) taken ∙ t.outs;
-  late = ap (λ (z : View Kept). z.late) taken ∙ t.late;
-  ins = λ e x there apart. ap (λ (z : View Kept). at z.ins e) taken ∙ t.others e x (ap (λ l. get_elem? l e) same ∙ there) apart;
+  parts = ap (λ (z : SeatView Kept). z.parts) taken ∙ t.parts;
+  nodes = ap (λ (z : SeatView Kept). z.nodes) taken ∙ ap (λ l. put l node Taken) t.nodes;
+  outs = ap (λ (z : SeatView Kept). z.outs) taken ∙ t.outs;
+  late = ap (λ (z : SeatView Kept). z.late) taken ∙ t.late;
+  ins = λ e x there apart. ap (λ (z : SeatView Kept). at z.ins e) taken ∙ t.others e x (ap (λ l. get_elem? l e) same ∙ there) apart;
 }
 
-pub begun_taken : (plan : Plan Kept) (u b : View Kept) (node : ℕ) → IsBegun plan u b node → at b.nodes node ≡ Taken
+pub begun_taken : (plan : ClaimPlan Kept) (u b : SeatView Kept) (node : ℕ) → IsBegun plan u b node → at b.nodes node ≡ Taken
 begun_taken plan u b node t = ap (λ l. at l node) t.nodes ∙ at_put u.nodes node Taken
 
 -- and whose work is put back
-pub worked_is : (plan : Plan Kept) (u b c : View Kept) (node : ℕ) → IsBegun plan u b node → c ≡ mark_node b node PutBack → IsWorked plan u c node
+pub worked_is : (plan : ClaimPlan Kept) (u b c : SeatView Kept) (node : ℕ) → IsBegun plan u b node → c ≡ mark_node b node PutBack → IsWorked plan u c node
 worked_is plan u b c node t put_back = record {
-  parts = ap (λ (z : View Kept). z.parts) put_back ∙ t.parts;
-  back = ap (λ (z : View Kept). at z.nodes node) put_back ∙ at_put b.nodes node PutBack;
-  nodes = λ m other. ap (λ (z : View Kept). at z.nodes m) put_back ∙ at_put_else b.nodes node m PutBack other ∙ ap (λ l. at l m) t.nodes ∙ at_put_else u.nodes node m Taken other;
-  outs = ap (λ (z : View Kept). z.outs) put_back ∙ t.outs;
-  late = ap (λ (z : View Kept). z.late) put_back ∙ t.late;
-  ins = λ e x there apart. ap (λ (z : View Kept). at z.ins e) put_back ∙ t.ins e x there apart;
+  parts = ap (λ (z : SeatView Kept). z.parts) put_back ∙ t.parts;
+  back = ap (λ (z : SeatView Kept). at z.nodes node) put_back ∙ at_put b.nodes node PutBack;
+  nodes = λ m other. ap (λ (z : SeatView Kept). at z.nodes m) put_back ∙ at_put_else b.nodes node m PutBack other ∙ ap (λ l. at l m) t.nodes ∙ at_put_else u.nodes node m Taken other;
+  outs = ap (λ (z : SeatView Kept). z.outs) put_back ∙ t.outs;
+  late = ap (λ (z : SeatView Kept). z.late) put_back ∙ t.late;
+  ins = λ e x there apart. ap (λ (z : SeatView Kept). at z.ins e) put_back ∙ t.ins e x there apart;
 }
 
 -- a mark that is had is none of the others
@@ -72,7 +72,7 @@ pub had_marked : (m : Mark) → IsHadMark m → m ≢ Unmarked
 had_marked m h e = subst IsHadMark e h
 
 -- an edge is handed on
-module _ (plan : Plan Kept) (u v : View Kept) (edge to : ℕ) (made : Bool) (eq : v ≡ gets made to (mark_out (mark_late u edge Delivered) edge Delivered)) where
+module _ (plan : ClaimPlan Kept) (u v : SeatView Kept) (edge to : ℕ) (made : Bool) (eq : v ≡ gets made to (mark_out (mark_late u edge Delivered) edge Delivered)) where
   -- other edges to the node are not delivered
   pub delivered_only : made ≡ false → IsDelivered plan u v edge to None
   delivered_only no_more =
@@ -109,7 +109,7 @@ module _ (plan : Plan Kept) (u v : View Kept) (edge to : ℕ) (made : Bool) (eq 
       }
 
 -- an edge of a node is delivered
-module _ (plan : Plan Kept) (node : ℕ) (v w : View Kept) (count to : ℕ) (x : Edge) (found : Option ℕ) (o : IsDelivered plan v w count to found)
+module _ (plan : ClaimPlan Kept) (node : ℕ) (v w : SeatView Kept) (count to : ℕ) (x : Edge) (found : Option ℕ) (o : IsDelivered plan v w count to found)
     (there : get_elem? plan.edges.items count ≡ some x) (from_is : x.from ≡ node) where
   pub out_at : (e : ℕ) → at w.outs e ≡ at (put v.outs count Delivered) e
   out_at e = ap (λ l. at l e) o.outs

@@ -54,7 +54,6 @@ pub(crate) struct Base {
 
 /// The nodes of a lawful run, all of which stand at one step of it. A contract sees the run, the step, the nodes with an operator
 /// that were worked for the step, and what the operator of each node has read in each of its steps.
-#[derive(Drop)]
 pub struct Graph {
     run: Snapshot<Run>,
     step: u64,
@@ -81,6 +80,18 @@ impl Model for Graph {
 }
 
 // Written out, so that a crate which lets a graph go does not prove anew how each part of it is let go.
+impl Drop for Graph {
+    fn drop(self) {
+        let Self {
+            run: _,
+            step: _,
+            base: _,
+            works: _,
+            ran: _,
+        } = self;
+    }
+}
+
 /// The changes of the sources from a step to the next, by the batch of that, with reads that are counted from a blank.
 fn changes_of<L: Ledger>(
     context: &StepContext<'_>,

@@ -56,12 +56,22 @@ pub(crate) enum State {
 /// What a node keeps at a step. A contract sees the node, the step and the run, which say what is kept: an operator that stands
 /// for the tables of the inputs at that step and the node's own table, or why there are none. And it sees what the operator has
 /// read in each of its steps.
-#[derive(Drop)]
 pub struct Work {
     run: Snapshot<Run>,
     node: u32,
     step: u64,
     state: State,
+}
+
+impl Drop for Work {
+    fn drop(self) {
+        let Self {
+            run: _,
+            node: _,
+            step: _,
+            state: _,
+        } = self;
+    }
 }
 
 impl Model for Work {

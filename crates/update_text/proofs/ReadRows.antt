@@ -1,7 +1,7 @@
 -- Rows, their cells and their keys, read back.
 use Rattle.std.proofs.Common.{◌≡◌, refl, ap, sym, ◌∙◌, subst, true, false, true≢false, cond, ◌&&◌, ◌==◌, ℕ, zero, suc, ◌+◌, ◌-◌, ◌<◌, ◌≤◌, arith, List, [], ◌∷◌, ◌++◌, length, take, drop, get_or, map, append_assoc, inl, inr, eq-eqb, eqb-true}
-use Rattle.std.{specs.Prelude.{ℤ, FitsSigned, Some, None, Result, Ok, Err, ◌⊎◌, slice_get}, specs.Int.w64, specs.List.{AllByRecursion, range_with_len}, specs.List.Sorted.{IsBinarySearchResult, IsSearchInRange}, specs.Result.{result_ok, IsErrAnd}, specs.Ordering.{nat_cmp, is_lt, ordering_index, ordering_reverse}, specs.Cmp.Lexicographic.{slice_cmp, nat_list_cmp_total}, specs.declared.cmp.Ordering.Ordering, specs.declared.cmp.Ordering.TheVariants.{Less, Equal, Greater}, proofs.lemmas.Bool.{and_parts, or_from, cases_eq, cases_lt}, proofs.lemmas.Bool.Decides.Decides-int_eq, proofs.lemmas.List.{drop_more, get_or_default, take_more}, proofs.lemmas.Option.same_Some}
-use Rattle.key_lists.{specs.Keys.{IsRising, is_among}, proofs.Among.among-append, proofs.Every.every_weaker, proofs.Rising.{rising-append, rising_same}, proofs.Booleans.or_turned}
+use Rattle.std.{specs.Prelude.{ℤ, FitsSigned, Some, None, Result, Ok, Err, ◌⊎◌, slice_get}, specs.Int.w64, specs.List.{AllByRecursion, range_with_len}, specs.List.Sorted.{IsBinarySearchResult, IsSearchInRange}, specs.Result.{result_ok, IsErrAnd}, specs.Ordering.{nat_cmp, ordering_index, ordering_reverse}, specs.Cmp.Lexicographic.{slice_cmp, nat_list_cmp_total}, specs.declared.cmp.Ordering.Ordering, specs.declared.cmp.Ordering.TheVariants.{Less, Equal, Greater}, proofs.lemmas.Bool.{and_parts, or_from, cases_eq, cases_lt}, proofs.lemmas.Bool.Decides.Decides-int_eq, proofs.lemmas.List.{drop_more, get_or_default, take_more}, proofs.lemmas.Option.same_Some}
+use Rattle.key_lists.{specs.Keys.{IsRising, is_among}, proofs.Among.among-append, proofs.Every.every_weaker, proofs.Rising.{rising-append, rising_same}, proofs.Booleans.{less_from, or_turned}}
 use Rattle.row_set.{specs.Ranges.keys_from, specs.Sets.{last_key, united}, proofs.Held.range_rises, proofs.United.{among-united, united_rises}}
 use Rattle.tick_model.{specs.declared.plan.ColumnSpec.ColumnSpec, specs.declared.plan.Kind.Kind, specs.LawfulRuns.{AreTexts, is_before}, specs.Printable.{fits_kind, fit_columns}, specs.Tables.{is_null, null}, specs.Texts.{cell_text, cell_texts, known_cell_text, needs_quotes, records_text, record_text}}
 use Rattle.update_text.{specs.declared.printed.PrintedFault.PrintedFault, specs.declared.printed.PrintedFault.TheVariants.Memory, specs.Reading.{AreAhead, Gives, has_tag, next_fields}, proofs.Digits.field_text-plain, proofs.Quoting.record_before, proofs.RowsBack.known_is_some}
@@ -17,11 +17,6 @@ texts_before [] j k h less within = absurd (omega arith)
 texts_before (text ∷ texts) j zero h less within = absurd (omega arith)
 texts_before (text ∷ texts) zero (suc k) h less within = before_later text texts k h.1 (omega arith)
 texts_before (text ∷ texts) (suc j) (suc k) h less within = texts_before texts j k h.2 (omega arith) (omega arith)
-
-less_from : (o : Ordering) → is_lt o ≡ true → o ≡ Less
-less_from Less e = refl
-less_from Equal e = absurd (true≢false (sym e))
-less_from Greater e = absurd (true≢false (sym e))
 
 own_equal : (o : Ordering) → o ≡ ordering_reverse o → o ≡ Equal
 own_equal Less e = absurd (cc)

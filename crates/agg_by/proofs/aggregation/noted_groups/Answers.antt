@@ -2,7 +2,7 @@ use Rattle.std.proofs.Common.{◌≡◌, ap, sym, ◌∙◌, subst, true, arith,
 use Rattle.std.{specs.List.{AllByRecursion, list_any}, proofs.lemmas.Result.IfOk-weaker}
 use Rattle.key_lists.specs.Keys.{is_among}
 use Rattle.row_groups.specs.Members.{groups_of}
-use Rattle.agg_by.{specs.declared.notes.Notes.Notes, specs.Steps.{first_keys, touched_firsts}, specs.Touched.{AreLed, starts_numbered}, proofs.Whole.{came_few, firsts_few, found_firsts, noted_reads, touched_there}}
+use Rattle.agg_by.{specs.declared.notes.PriorRows.PriorRows, specs.Steps.{first_keys, touched_firsts}, specs.Touched.{AreLed, starts_numbered}, proofs.Whole.{came_few, firsts_few, found_firsts, noted_reads, touched_there}}
 use Rattle.tick_table.specs.Exact.{counted}
 use Rattle.agg_by.proofs.aggregation.noted_groups.Goals as goal
 
@@ -25,7 +25,7 @@ pub take-requires-clause-led : goal.take-requires-clause-led
 take-requires-clause-led g c = subst (AreLed c.args.kept.now.rows) (sym c.as_slice.ensures.value) c.in_ok-before.ensures.led
 
 pub returns-clause-touched : goal.returns-clause-touched
-returns-clause-touched g c = IfOk-weaker c.take.result _ _ (λ (notes : Notes) keys. c.in_ok-note_before.ensures.named) c.take.ensures.keys
+returns-clause-touched g c = IfOk-weaker c.take.result _ _ (λ (notes : PriorRows) keys. c.in_ok-note_before.ensures.named) c.take.ensures.keys
 
 pub returns-clause-keys : goal.returns-clause-keys
 returns-clause-keys g c =
@@ -34,7 +34,7 @@ returns-clause-keys g c =
     let rows = c.args.kept.now.rows in
     let are : c.in_ok-before.before ≡ touched_firsts by t t.old.rows =
     found_firsts by t t.old c.requires.exact.tick.old_table (groups_of rows) c.in_ok-before.before c.requires.keeps.rows c.in_ok-before.ensures.rising (λ first. c.in_ok-before.ensures.firsts first ∙ ap (list_any (starts_numbered rows first)) c.numbers.ensures ∙ c.in_ok-note_before.ensures.firsts first) in
-    IfOk-weaker c.take.result (λ (notes : Notes). notes.keys ≡ c.in_ok-before.before) (λ (notes : Notes). notes.keys ≡ touched_firsts by t t.old.rows) (λ notes is. is ∙ are) c.take.ensures.keys
+    IfOk-weaker c.take.result (λ (notes : PriorRows). notes.keys ≡ c.in_ok-before.before) (λ (notes : PriorRows). notes.keys ≡ touched_firsts by t t.old.rows) (λ notes is. is ∙ are) c.take.ensures.keys
 
 pub returns-in_err-note_before-clause-reads : goal.returns-in_err-note_before-clause-reads
 returns-in_err-note_before-clause-reads g c =

@@ -1,11 +1,11 @@
 use Rattle.std.proofs.Common.{◌≡◌, ◌<◌, ap, ◌∙◌, refl, subst, sym, arith, ℕ, zero, suc, List, [], ◌∷◌, ◌++◌, length, map, get_or, set, take, drop}
 use Rattle.std.{proofs.lemmas.List.get_or_default, proofs.lemmas.List.Edits.map_over_more}
 use Rattle.key_lists.proofs.Every.{all_from}
-use Rattle.agg_by.{specs.declared.running.Running.Running, specs.Answers.{HasRow, without_row}}
+use Rattle.agg_by.{specs.declared.running.Accumulator.Accumulator, specs.Answers.{HasRow, without_row}}
 use Rattle.agg_by.proofs.running.take_all.Goals as goal
 
 -- what has its turn is as it was
-at_turn : (f : Running → Running) (xs : List Running) (i : ℕ) (d : Running) → get_or (map f (take i xs) ++ drop i xs) i d ≡ get_or xs i d
+at_turn : (f : Accumulator → Accumulator) (xs : List Accumulator) (i : ℕ) (d : Accumulator) → get_or (map f (take i xs) ++ drop i xs) i d ≡ get_or xs i d
 at_turn f [] zero d = refl
 at_turn f [] (suc i) d = refl
 at_turn f (x ∷ xs) zero d = refl
@@ -18,7 +18,7 @@ take-requires c =
     let was = c.args.all.now in
     let below : place < length was = omega arith in
     let is : get_or c.loop-place.all place held ≡ get_or was place held =
-    ap (λ (all : List Running). get_or all place held) c.loop-place.invariant ∙ at_turn (without_row c.args.number c.args.row.now) was place held in
+    ap (λ (all : List Accumulator). get_or all place held) c.loop-place.invariant ∙ at_turn (without_row c.args.number c.args.row.now) was place held in
     subst (HasRow c.args.number c.args.row.now) (sym is) (all_from (HasRow c.args.number c.args.row.now) was c.requires place held below)
 
 pub loop-place-preserved : goal.loop-place-preserved

@@ -1,6 +1,6 @@
 use Rattle.std.proofs.Common.{◌∙◌, ℕ, sym, ap, subst, length, List, arith}
 use Rattle.tick_model.specs.declared.plan.Kind.{Kind}
-use Rattle.feed_reader.{specs.declared.gathered.Gathered.Gathered as Read, specs.declared.place.Place.TheVariants.Outside, specs.Gathered.{nothing, raw_steps}, specs.Raw.AreNumberedBatches, specs.ReadSteps.{kinds_by_node, steps_of}, specs.Records.{records_of, left_of, at_hand}, proofs.FeedLemmas.{left_to_read, feed_start, within_bytes}, proofs.RecordLemmas.{next_is, few_records}, proofs.StepLemmas.{at_start, batches_numbered, step_refused, step_told}}
+use Rattle.feed_reader.{specs.declared.gathered.FeedBuilder.FeedBuilder as Read, specs.declared.place.BlockState.TheVariants.Outside, specs.Gathered.{nothing, raw_steps}, specs.Raw.AreNumberedBatches, specs.ReadSteps.{kinds_by_node, steps_of}, specs.Records.{records_of, left_of, at_hand}, proofs.FeedLemmas.{left_to_read, feed_start, within_bytes}, proofs.RecordLemmas.{next_is, few_records}, proofs.StepLemmas.{at_start, batches_numbered, step_refused, step_told}}
 use Rattle.feed_reader.proofs.feeds.read_feed.Goals as goal
 
 pub records-init : goal.records-init

@@ -2,7 +2,7 @@ use Rattle.std.proofs.Common.{◌∙◌, ℕ, List, map, refl, sym, inl}
 use Rattle.std.{specs.Prelude.{String, string_bytes}, specs.Global.Global}
 use Rattle.tick_io.specs.Counts.{Rose}
 use Rattle.command_words.specs.Commands.{command}
-use Rattle.feed_run.{specs.declared.refusal.Refusal.TheVariants.Usage, specs.declared.refusal.Stop.TheVariants.Refused, specs.Headline.{LoadFailed, NoLoadFailed}, proofs.CommandEnds.{command_asked, command_ends, usage_asked, usage_ends}, proofs.CommandLemmas.command_few, proofs.Statuses.{stop_status, words_status}}
+use Rattle.feed_run.{specs.declared.refusal.Refusal.TheVariants.Usage, specs.declared.refusal.LoadStop.TheVariants.Refused, specs.Headline.{LoadFailed, NoLoadFailed}, proofs.CommandEnds.{command_asked, command_ends, usage_asked, usage_ends}, proofs.CommandLemmas.command_few, proofs.Statuses.{stop_status, words_status}}
 use Rattle.feed_run.proofs.program.answer.Goals as goal
 
 abbrev texts : List (String Global) → List (List ℕ)

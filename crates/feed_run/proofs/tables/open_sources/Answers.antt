@@ -4,7 +4,7 @@ use Rattle.tick_io.proofs.RisingCounts.{rose_earlier}
 use Rattle.tick_model.specs.declared.plan.Node.{Node}
 use Rattle.script_reader.specs.declared.script.SourceFile.{SourceFile}
 use Rattle.feed_reader.specs.declared.raw.RawTable.{RawTable}
-use Rattle.feed_run.{specs.declared.refusal.Stop.TheVariants.Memory, specs.Headline.{IsOneOf, LoadFailed}, specs.Readings.{Content, first_file, opening_by}, specs.Stops.Reads, proofs.AskLemmas.on_refused_more, proofs.TableLemmas.{AsksOn, Opens, asks_begin, asks_end, asks_next, asks_stop, opens_all, opens_more, opens_stop}}
+use Rattle.feed_run.{specs.declared.refusal.LoadStop.TheVariants.Memory, specs.Headline.{IsOneOf, LoadFailed}, specs.Readings.{Content, first_file, opening_by}, specs.Stops.Reads, proofs.AskLemmas.on_refused_more, proofs.TableLemmas.{AsksOn, Opens, asks_begin, asks_end, asks_next, asks_stop, opens_all, opens_more, opens_stop}}
 use Rattle.feed_run.proofs.tables.open_sources.Goals as goal
 
 abbrev now : List (Bor Node) → List Node

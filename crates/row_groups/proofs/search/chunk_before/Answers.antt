@@ -2,10 +2,10 @@ use Rattle.std.proofs.Common.{◌≡◌, ◌+◌, ◌-◌, ◌<◌, Bool, true, 
 use Rattle.key_lists.proofs.Parts.{every_at}
 use Rattle.row_handles.specs.Entries.{key_with}
 use Rattle.chunk_list.specs.Chunked.{list_at}
-use Rattle.row_groups.{specs.declared.place.Slot.Slot, specs.Slots.is_before, proofs.Parts.{chunks_failed, chunks_passed, known_at}}
+use Rattle.row_groups.{specs.declared.place.GroupRow.GroupRow, specs.Slots.is_before, proofs.Parts.{chunks_failed, chunks_passed, known_at}}
 use Rattle.row_groups.proofs.search.chunk_before.Goals as goal
 
-same_first : (test : Slot → Bool) (passes : Bool) (rows others : List Slot) (d : Slot) → rows ≡ others → test (get_or rows 0 d) ≡ passes → test (get_or others 0 d) ≡ passes
+same_first : (test : GroupRow → Bool) (passes : Bool) (rows others : List GroupRow) (d : GroupRow) → rows ≡ others → test (get_or rows 0 d) ≡ passes → test (get_or others 0 d) ≡ passes
 same_first test passes rows others d e is = subst (λ slots. test (get_or slots 0 d) ≡ passes) e is
 
 pub likely_place-guess-requires-clause-lower : goal.likely_place-guess-requires-clause-lower
@@ -20,7 +20,7 @@ pub is_after-requires : goal.is_after-requires
 is_after-requires c =
     let middle : ℕ = c.inside-middle.result in
     let lt : middle + 1 < length c.args.chunks.now = omega (arith, c.inside-middle.ensures.to, c.loop-low.invariant.within) in
-    every_at (λ (slot : Slot). IsSome (key_with slot.handle c.args.place.now.handles.now)) c.chunk-in-loop-low.result.now 0 _ c.chunk-in-loop-low.ensures.some
+    every_at (λ (slot : GroupRow). IsSome (key_with slot.handle c.args.place.now.handles.now)) c.chunk-in-loop-low.result.now 0 _ c.chunk-in-loop-low.ensures.some
     (known_at c.args.place.now.handles.now c.args.chunks.now (middle + 1) c.chunk-in-loop-low.result.now lt c.requires.known c.chunk-in-loop-low.ensures.items)
 
 pub loop-low-preserved-then-is_after : goal.loop-low-preserved-then-is_after

@@ -1,19 +1,19 @@
 use Rattle.std.proofs.Common.{sym, ◌∙◌, subst, get_or, IsSome}
 use Rattle.key_lists.proofs.Parts.{every_at}
 use Rattle.slab.{specs.Slab.ContainsKey, proofs.SlabLemmas.Updates-with_value}
-use Rattle.row_handles.{specs.declared.block.Row.Row, specs.Blocks.place_in, proofs.Renaming.{none_before, ne_at}, proofs.Joining.{fresh_at, settled_more}}
+use Rattle.row_handles.{specs.declared.block.BlockRow.BlockRow, specs.Blocks.place_in, proofs.Renaming.{none_before, ne_at}, proofs.Joining.{fresh_at, settled_more}}
 use Rattle.row_handles.proofs.joins.settle.Goals as goal
 
 pub index_mut-requires : goal.index_mut-requires
 index_mut-requires c =
-    let none : Row = record { depth = 0; handle = 0 } in
+    let none : BlockRow = record { depth = 0; handle = 0 } in
     let rows = c.args.rows.now in
     let i = c.loop-row.row-index in
     subst IsSome (sym (c.loop-row.invariant.others (get_or rows i none).handle (fresh_at rows i none c.loop-row-test.true c.requires.distinct))) (every_at (λ row. ContainsKey c.args.places.now row.handle) rows i none c.loop-row-test.true c.requires.there)
 
 pub loop-row-preserved : goal.loop-row-preserved
 loop-row-preserved c =
-    let none : Row = record { depth = 0; handle = 0 } in
+    let none : BlockRow = record { depth = 0; handle = 0 } in
     let rows = c.args.rows.now in
     let i = c.loop-row.row-index in
     let row = get_or rows i none in

@@ -1,7 +1,7 @@
 use Rattle.std.proofs.Common.{ap, sym, ◌∙◌, ◌∷◌, true≢false, get_or, [], List, ℕ}
 use Rattle.std.{specs.Prelude.codes, specs.Fmt.decimal}
 use Rattle.update_text.proofs.ReadRows.{gives_memory}
-use Rattle.run_output.specs.declared.entry.Entry.TheVariants.{Done}
+use Rattle.run_output.specs.declared.entry.OutputEntry.TheVariants.{Done}
 use Rattle.run_output.proofs.one_entry.read_done.Goals as goal
 
 pub returns-in_err-fields-clause-told : goal.returns-in_err-fields-clause-told

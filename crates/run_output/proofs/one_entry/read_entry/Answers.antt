@@ -2,7 +2,7 @@ use Rattle.std.proofs.Common.{refl, ap, sym, ◌∙◌, ◌∷◌, true≢false,
 use Rattle.std.{specs.Prelude.codes, proofs.lemmas.List.append-nil}
 use Rattle.tick_model.specs.Texts.{done_record, record_text, records_text}
 use Rattle.update_text.proofs.ReadRows.{gives_memory}
-use Rattle.run_output.{specs.declared.entry.Entry.TheVariants.{Update, Snapshot, Done, Fault}, proofs.EntryTexts.{begins_with, differ_at, fields_are, fields_of, parts_of, tag_is, tag_of}}
+use Rattle.run_output.{specs.declared.entry.OutputEntry.TheVariants.{Update, Snapshot, Done, Fault}, proofs.EntryTexts.{begins_with, differ_at, fields_are, fields_of, parts_of, tag_is, tag_of}}
 use Rattle.run_output.proofs.one_entry.read_entry.Goals as goal
 
 pub returns-in_err-fields-clause-told : goal.returns-in_err-fields-clause-told

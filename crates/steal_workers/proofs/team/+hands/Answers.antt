@@ -1,5 +1,5 @@
 use Rattle.std.proofs.Common.{rules, ◌≡◌, ◌+◌, ◌-◌, ◌<◌, ap, arith, IfOk, vec_len}
-use Rattle.graph_words.{specs.Models.SeatModel, specs.declared.table.View.View}
+use Rattle.graph_words.{specs.Models.SeatModel, specs.declared.table.SeatView.SeatView}
 use Rattle.steal_workers.{specs.Holdings.{IsGoneOn, IsHeld, NoNode}, specs.Lists.IsListed, proofs.Holding.{joined_result_held, joined_result_on, less_held, ok_gone_on, part_held}}
 use Rattle.steal_workers.proofs.team.+hands.Goals as goal
 
@@ -38,8 +38,8 @@ join-hand-requires-after_bounds g t c κs within =
     let fewer : vec_len c.pop.new.self + 1 ≡ vec_len c.args.others = search rules in
     let halves = c.take_half-half.ensures.len in
     let count = c.len-2.ensures in
-    let less : v.parts ≡ u.parts - (c.len-2.result + 1) = ap (λ (z : View g.row.W.Denot). z.parts) c.split_parts-other.ensures.old.1 in
-    let given : part.parts ≡ c.len-2.result + 1 = ap (λ (z : View g.row.W.Denot). z.parts) c.split_parts-other.ensures.new.1 in
+    let less : v.parts ≡ u.parts - (c.len-2.result + 1) = ap (λ (z : SeatView g.row.W.Denot). z.parts) c.split_parts-other.ensures.old.1 in
+    let given : part.parts ≡ c.len-2.result + 1 = ap (λ (z : SeatView g.row.W.Denot). z.parts) c.split_parts-other.ensures.new.1 in
     let theirs : IsHeld plan part NoNode = part_held plan (c.len-2.result + 1) u part c.split_parts-other.ensures.new.1 in
     let mine : IsHeld plan v (IsListed c.work_first.new.kept.nodes.items) = less_held plan (c.len-2.result + 1) u v (IsListed c.work_first.new.kept.nodes.items) c.in-Ok.ensures.held c.split_parts-other.ensures.old.1 in
     let their_parts : vec_len c.take_half-half.result < part.parts = omega (arith, count, given) in

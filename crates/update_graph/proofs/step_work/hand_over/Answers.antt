@@ -1,17 +1,17 @@
 use Rattle.std.proofs.Common.{◌≡◌, sym, subst, get_or, Some, None, append-nil, ℕ, Bool}
-use Rattle.graph_words.{specs.declared.graph.Plan.Plan, specs.declared.table.Mark.TheVariants.{Delivered, Unmarked}, specs.declared.table.View.View, specs.Marks.at, specs.Views.{IsUntouched, gets, mark_late, mark_out}}
+use Rattle.graph_words.{specs.declared.graph.ClaimPlan.ClaimPlan, specs.declared.table.Mark.TheVariants.{Delivered, Unmarked}, specs.declared.table.SeatView.SeatView, specs.Marks.at, specs.Views.{IsUntouched, gets, mark_late, mark_out}}
 use Rattle.steal_workers.proofs.Listing.{unlisted}
 use Rattle.update_graph.{specs.Tags.Kept, proofs.Handing.{delivered_last, delivered_only, had_marked}, proofs.PlanEdges.item_there, proofs.Walking.no_edge, proofs.WorkSent.sent}
 use Rattle.update_graph.proofs.step_work.hand_over.Goals as goal
 
 -- the view after the delivery, where the edge goes to this node
-view_to : (u v : View Kept) (edge far to : ℕ) (made : Bool) → far ≡ to → v ≡ gets made far (mark_out (mark_late u edge Delivered) edge Delivered) → v ≡ gets made to (mark_out (mark_late u edge Delivered) edge Delivered)
+view_to : (u v : SeatView Kept) (edge far to : ℕ) (made : Bool) → far ≡ to → v ≡ gets made far (mark_out (mark_late u edge Delivered) edge Delivered) → v ≡ gets made to (mark_out (mark_late u edge Delivered) edge Delivered)
 view_to u v edge far to made is eq = subst (λ m. v ≡ gets made m (mark_out (mark_late u edge Delivered) edge Delivered)) is eq
 
-fresh_to : (u : View Kept) (far to : ℕ) → far ≡ to → at u.nodes far ≡ Unmarked → at u.nodes to ≡ Unmarked
+fresh_to : (u : SeatView Kept) (far to : ℕ) → far ≡ to → at u.nodes far ≡ Unmarked → at u.nodes to ≡ Unmarked
 fresh_to u far to is none = subst (λ m. at u.nodes m ≡ Unmarked) is none
 
-clean_to : (plan : Plan Kept) (u : View Kept) (far to : ℕ) → far ≡ to → IsUntouched plan u far → IsUntouched plan u to
+clean_to : (plan : ClaimPlan Kept) (u : SeatView Kept) (far to : ℕ) → far ≡ to → IsUntouched plan u far → IsUntouched plan u to
 clean_to plan u far to is clean = subst (λ m. IsUntouched plan u m) is clean
 
 pub add-requires-clause-fresh : goal.add-requires-clause-fresh

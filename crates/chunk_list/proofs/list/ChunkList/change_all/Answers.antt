@@ -5,8 +5,8 @@ use Rattle.chunk_list.proofs.list.ChunkList.change_all.Goals as goal
 
 pub invariant_of-self : goal.invariant_of-self
 invariant_of-self g c =
-    subst (λ ls. AreChunks ls c.self.inside.counts) (sym c.change_all.ensures) (changed_kept (g.C.Change.changed c.args.change.now) c.self.inside.chunks c.self.inside.counts c.self.invariant)
+    subst (λ ls. AreChunks ls c.self.inside.counts) (sym c.change_all.ensures) (changed_kept (g.C.ItemChange.changed c.args.change.now) c.self.inside.chunks c.self.inside.counts c.self.invariant)
 
 pub returns-clause-sizes : goal.returns-clause-sizes
 returns-clause-sizes g c =
-    subst (AllByRecursion IsChunk) (sym c.change_all.ensures) (changed_kept (g.C.Change.changed c.args.change.now) c.self.inside.chunks c.self.inside.counts c.self.invariant).sizes
+    subst (AllByRecursion IsChunk) (sym c.change_all.ensures) (changed_kept (g.C.ItemChange.changed c.args.change.now) c.self.inside.chunks c.self.inside.counts c.self.invariant).sizes

@@ -2,7 +2,7 @@ use Rattle.std.proofs.Common.{◌∷◌, [], ◌++◌, ap, sym, ◌∙◌, subst
 use Rattle.std.specs.Option.{option_map_or}
 use Rattle.slab.specs.Slab.{get}
 use Rattle.row_handles.proofs.Inserting.{on_err}
-use Rattle.row_groups.{specs.declared.lists.KeyedRows.KeyedRows, specs.declared.lists.Lists.Lists, specs.declared.place.Slot.Slot, specs.Rows.{Becomes, ByNumber, Leads, number_under, slots_numbered}, proofs.Listed.{Begins, begins_numbered, begins_rows, unbegun}}
+use Rattle.row_groups.{specs.declared.lists.KeyedRows.KeyedRows, specs.declared.lists.Lists.Lists, specs.declared.place.GroupRow.GroupRow, specs.Rows.{Becomes, ByNumber, Leads, number_under, slots_numbered}, proofs.Listed.{Begins, begins_numbered, begins_rows, unbegun}}
 use Rattle.row_groups.proofs.lists.Lists.begin.Goals as goal
 
 pub returns-in_err-push-clause-err : goal.returns-in_err-push-clause-err
@@ -46,7 +46,7 @@ begins c =
       others = λ n ne. c.insert_reserved.ensures.updates.others n ne ∙ ap (λ (groups : ByNumber). get groups n) kept;
       same = c.in_ok-kept.ensures.items;
       crowded = refl;
-      only = subst (λ (rows : List Slot). length rows ≤ 1) (sym (c.in_ok-push.ensures.ok ∙ ap (λ rows. rows ++ c.args.slot ∷ []) c.new-rows.ensures)) (omega arith);
+      only = subst (λ (rows : List GroupRow). length rows ≤ 1) (sym (c.in_ok-push.ensures.ok ∙ ap (λ rows. rows ++ c.args.slot ∷ []) c.new-rows.ensures)) (omega arith);
     }
 
 pub returns-clause-ok : goal.returns-clause-ok

@@ -1,7 +1,7 @@
 use Rattle.std.proofs.Common.{◌≡◌, ◌≤◌, ap, sym, ◌∙◌, subst, refl, length, arith, ℕ, List, [], Some, inl, inr}
 use Rattle.std.{proofs.lemmas.Bool.cases_eq, proofs.lemmas.Option.none-some}
 use Rattle.key_lists.proofs.Parts.{no_items}
-use Rattle.row_groups.{specs.declared.lists.KeyedRows.KeyedRows, specs.declared.lists.Lists.Lists, specs.declared.place.Slot.Slot, specs.Slots.slots_without, specs.Rows.{AreNumbered, Becomes, cells_with}, proofs.Listed.{becomes_after, changed, changes_cells, changes_numbered, changes_rows, own_short, same_items, shorter, under_number, with_rows}}
+use Rattle.row_groups.{specs.declared.lists.KeyedRows.KeyedRows, specs.declared.lists.Lists.Lists, specs.declared.place.GroupRow.GroupRow, specs.Slots.slots_without, specs.Rows.{AreNumbered, Becomes, cells_with}, proofs.Listed.{becomes_after, changed, changes_cells, changes_numbered, changes_rows, own_short, same_items, shorter, under_number, with_rows}}
 use Rattle.slab.specs.Slab.{get, with_value}
 use Rattle.row_groups.proofs.lists.Lists.take.Goals as goal
 
@@ -62,7 +62,7 @@ returns-else-is_empty-clause-fewer c = λ other cells e.
     sym (changes_cells number group left old mid (changed number group left old mid c.requires.sound c.index_mut.ensures.value refl refl) other) ∙ e
 
 -- the lists where a group has lost a row
-kept : (old : Lists) (number : ℕ) (group : KeyedRows) (left : List Slot) → AreNumbered old → get old.groups number ≡ Some group → length left ≤ length group.rows → AreNumbered (record old { groups = with_value old.groups number (record group { rows = left }) })
+kept : (old : Lists) (number : ℕ) (group : KeyedRows) (left : List GroupRow) → AreNumbered old → get old.groups number ≡ Some group → length left ≤ length group.rows → AreNumbered (record old { groups = with_value old.groups number (record group { rows = left }) })
 kept old number group left sound was fewer =
     changes_numbered number group left old _ (changed number group left old _ sound was refl refl) (λ calm. (calm, omega (arith, fewer, own_short number group old sound was calm)))
 
@@ -71,7 +71,7 @@ give_up-requires c =
     let rows = c.index_mut.result.now.rows in
     let left = c.take.new.self in
     let place = c.args.place.now in
-    let fewer : length left ≤ length rows = subst (λ (slots : List Slot). length slots ≤ length rows) (sym c.take.ensures) (shorter place.handles.now place.at place.key rows) in
+    let fewer : length left ≤ length rows = subst (λ (slots : List GroupRow). length slots ≤ length rows) (sym c.take.ensures) (shorter place.handles.now place.at place.key rows) in
     let is = kept c.args.self.now c.args.number c.index_mut.result.now left c.requires.sound c.index_mut.ensures.value fewer in
     record { numbers = is.numbers; cells = is.cells; alone = is.alone }
 
@@ -80,6 +80,6 @@ returns-else-is_empty-clause-sound c =
     let rows = c.index_mut.result.now.rows in
     let left = c.take.new.self in
     let place = c.args.place.now in
-    let fewer : length left ≤ length rows = subst (λ (slots : List Slot). length slots ≤ length rows) (sym c.take.ensures) (shorter place.handles.now place.at place.key rows) in
+    let fewer : length left ≤ length rows = subst (λ (slots : List GroupRow). length slots ≤ length rows) (sym c.take.ensures) (shorter place.handles.now place.at place.key rows) in
     let is = kept c.args.self.now c.args.number c.index_mut.result.now left c.requires.sound c.index_mut.ensures.value fewer in
     record { numbers = is.numbers; cells = is.cells; alone = is.alone }

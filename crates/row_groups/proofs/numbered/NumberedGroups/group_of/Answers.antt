@@ -1,5 +1,5 @@
 use Rattle.std.proofs.Common.{ap, sym, ◌∙◌, subst, refl, option_map, List, ℤ}
-use Rattle.row_groups.{specs.declared.table.Kept.Kept, specs.Members.{AreGrouped, Member, Numbered, group_of, groups_of, member_under, name_at}, specs.Rows.{IsKept, cells_in, cells_with, kept_in}, proofs.Keys.under_has, proofs.Groupings.{are_grouped, under_same}, proofs.Indexed.some_cells, proofs.Named.name_is}
+use Rattle.row_groups.{specs.declared.table.GroupMember.GroupMember, specs.Members.{AreGrouped, Member, Numbered, group_of, groups_of, member_under, name_at}, specs.Rows.{IsKept, cells_in, cells_with, kept_in}, proofs.Keys.under_has, proofs.Groupings.{are_grouped, under_same}, proofs.Indexed.some_cells, proofs.Named.name_is}
 use Rattle.row_groups.proofs.numbered.NumberedGroups.group_of.Goals as goal
 
 pub returns-in_err-handle-clause-group : goal.returns-in_err-handle-clause-group
@@ -34,7 +34,7 @@ returns-clause-group c =
     ∙ ap (option_map group)
     (ap (λ (numbered : Numbered). name_at c.get.result.number numbered.names) (sym c.self.view_is)
     ∙ name_is c.get.result.number groups
-    ∙ ap (λ (kept : Kept). cells_with kept.number groups) c.get.ensures
+    ∙ ap (λ (kept : GroupMember). cells_with kept.number groups) c.get.ensures
     ∙ some_cells (cells_with (kept_in index.table handle).number groups) kept.there)
     ∙ sym (
     ap (λ (numbered : Numbered). option_map (λ (member : Member). group member.cells) (member_under c.args.key numbered.members)) (sym c.self.view_is)

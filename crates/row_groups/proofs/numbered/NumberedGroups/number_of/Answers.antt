@@ -1,6 +1,6 @@
 use Rattle.std.proofs.Common.{◌≡◌, ap, sym, ◌∙◌, subst, refl, option_map, ℕ, Option, Some, IsSome}
 use Rattle.std.proofs.lemmas.Option.{same_Some}
-use Rattle.row_groups.{specs.declared.table.Kept.Kept, specs.Members.{IsNumberOf, Numbered, member_under}, specs.Rows.{IsKept, cells_in, cells_with, kept_in}, proofs.Keys.under_has, proofs.Groupings.{there_under, under_same}, proofs.Indexed.some_cells, proofs.Named.number_is}
+use Rattle.row_groups.{specs.declared.table.GroupMember.GroupMember, specs.Members.{IsNumberOf, Numbered, member_under}, specs.Rows.{IsKept, cells_in, cells_with, kept_in}, proofs.Keys.under_has, proofs.Groupings.{there_under, under_same}, proofs.Indexed.some_cells, proofs.Named.number_is}
 use Rattle.row_groups.proofs.numbered.NumberedGroups.number_of.Goals as goal
 
 pub unwrap-handle-requires : goal.unwrap-handle-requires
@@ -31,4 +31,4 @@ returns c = λ cells is.
     ) in
     subst (λ (numbered : Numbered). IsNumberOf c.get.result.number cells numbered.names) c.self.view_is
     (number_is index c.self.invariant c.get.result.number cells
-    (ap (λ (kept : Kept). cells_with kept.number groups) c.get.ensures ∙ some_cells (cells_with (kept_in index.table handle).number groups) kept.there ∙ ap Some same))
+    (ap (λ (kept : GroupMember). cells_with kept.number groups) c.get.ensures ∙ some_cells (cells_with (kept_in index.table handle).number groups) kept.there ∙ ap Some same))

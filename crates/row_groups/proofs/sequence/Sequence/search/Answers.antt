@@ -1,10 +1,10 @@
 use Rattle.std.proofs.Common.{◌≡◌, ◌+◌, ℕ, List, true, false, ap, sym, subst, take, drop, length, arith}
 use Rattle.std.specs.List.{AllByRecursion}
-use Rattle.chunk_list.{specs.declared.counts.Place.Place, specs.Chunked.{joined, position_in}, proofs.Searches.position_within}
-use Rattle.row_groups.{specs.declared.place.Slot.Slot, specs.Slots.is_before}
+use Rattle.chunk_list.{specs.declared.counts.ChunkPosition.ChunkPosition, specs.Chunked.{joined, position_in}, proofs.Searches.position_within}
+use Rattle.row_groups.{specs.declared.place.GroupRow.GroupRow, specs.Slots.is_before}
 use Rattle.row_groups.proofs.sequence.Sequence.search.Goals as goal
 
-position_is : (chunks : List (List Slot)) (spot : Place) (count : ℕ) → count ≡ length (joined (take spot.index chunks)) → position_in chunks spot ≡ count + spot.offset
+position_is : (chunks : List (List GroupRow)) (spot : ChunkPosition) (count : ℕ) → count ≡ length (joined (take spot.index chunks)) → position_in chunks spot ≡ count + spot.offset
 position_is chunks spot count e = ap (λ n. n + spot.offset) (sym e)
 
 pub count_in-requires-clause-fits : goal.count_in-requires-clause-fits

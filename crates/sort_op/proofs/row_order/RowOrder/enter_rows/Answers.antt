@@ -5,7 +5,7 @@ use Rattle.row_changes.proofs.Comparing.{reads_within}
 use Rattle.row_handles.specs.Entries.{keys_of}
 use Rattle.row_set.proofs.Yielded.{next_has, next_new, next_small, yielded_all, yielded_next}
 use Rattle.tick_model.{specs.declared.plan.SortBy.SortBy, specs.declared.table.PlainTable.PlainTable, specs.Tables.{cells_at, keys}}
-use Rattle.sort_op.{specs.declared.entry.Entry.Entry, specs.declared.row_order.Row.Row, specs.Entries.keys_in, specs.Ranks.{AreArrived, HasArrived, listed}, specs.Reading.{entries_under, entry_under, entry_with}, proofs.Entering.{arrived_more, keys_apart, key_more, none_arrived, reads_one_more}}
+use Rattle.sort_op.{specs.declared.entry.Entry.Entry, specs.declared.row_order.OrderedRow.OrderedRow, specs.Entries.keys_in, specs.Ranks.{AreArrived, HasArrived, listed}, specs.Reading.{entries_under, entry_under, entry_with}, proofs.Entering.{arrived_more, keys_apart, key_more, none_arrived, reads_one_more}}
 use Rattle.sort_op.proofs.row_order.RowOrder.enter_rows.Goals as goal
 
 pub loop-key-init : goal.loop-key-init
@@ -13,7 +13,7 @@ loop-key-init g c = record {
   table = c.of-rows.ensures;
   by = refl;
   listed = refl;
-  entered = subst (λ (rows : List Row). AreArrived c.args.self.now rows []) (sym c.new-entered.ensures.items) (none_arrived c.args.self.now);
+  entered = subst (λ (rows : List OrderedRow). AreArrived c.args.self.now rows []) (sym c.new-entered.ensures.items) (none_arrived c.args.self.now);
   keys = λ key. refl;
   reads = omega arith;
 }
@@ -47,7 +47,7 @@ loop-key-preserved g c =
       by = c.enter.ensures.by ∙ c.loop-key.invariant.by;
       listed = c.enter.ensures.listed ∙ c.loop-key.invariant.listed;
       entered =
-          subst (λ (rows : List Row). AreArrived c.enter.new.self rows (entries_under first.by table (yielded ++ key ∷ []))) (sym c.in_ok-push.ensures.items)
+          subst (λ (rows : List OrderedRow). AreArrived c.enter.new.self rows (entries_under first.by table (yielded ++ key ∷ []))) (sym c.in_ok-push.ensures.items)
           (subst (AreArrived c.enter.new.self (c.loop-key.entered.items ++ row ∷ [])) (sym (map-append (entry_under first.by table) yielded (key ∷ [])))
           (arrived_more c.loop-key.self c.enter.new.self c.loop-key.entered.items (entries_under first.by table yielded) row key (entry_under first.by table key) (keys_apart first.by table c.loop-key.self c.loop-key.entered.items yielded key c.loop-key.invariant.entered out) c.enter.ensures.others c.loop-key.invariant.entered
           (subst (HasArrived c.enter.new.self row) (ap₂ (λ (by : List SortBy) (cells : List ℤ). entry_with by cells key) c.loop-key.invariant.by read) c.in_ok-enter.ensures.entered)));

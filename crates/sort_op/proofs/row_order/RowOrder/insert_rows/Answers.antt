@@ -2,7 +2,7 @@ use Rattle.std.proofs.Common.{◌≡◌, ◌||◌, ◌∙◌, ◌++◌, ◌∷�
 use Rattle.std.{specs.Prelude.insert, specs.List.AllByRecursion, specs.List.Sorted.IsPermutation, proofs.lemmas.Bool.eqb-true, proofs.lemmas.List.{map-append, nil_from_length}, proofs.lemmas.List.Sorted.IsPermutation-map}
 use Rattle.key_lists.{proofs.Booleans.or_false, proofs.Every.{every, every-map}, proofs.Parts.{every_front, every_back}}
 use Rattle.row_handles.specs.Entries.{key_with}
-use Rattle.sort_op.{specs.declared.arrivals.Coming.Coming, specs.declared.entry.Entry.Entry, specs.declared.row_order.Row.Row, specs.Entries.{comes_before, is_in, place_of, AreDistinct, Falls, IsWhole, Rises}, specs.Firsts.rows_in, specs.Ranks.{IsRanking, Ranking, arrived, listed, row_entry}, proofs.Arrived.{all_arrived, last_ahead, none_arrived, one_arrived, HaveArrived}, proofs.Inserted.{distinct_front, distinct_permuted, every_permuted, in_permuted, in_step, last_has, out_step, place_out}, proofs.Ranked.arrived_whole, proofs.RankedEdits.listed_more}
+use Rattle.sort_op.{specs.declared.arrivals.Coming.Coming, specs.declared.entry.Entry.Entry, specs.declared.row_order.OrderedRow.OrderedRow, specs.Entries.{comes_before, is_in, place_of, AreDistinct, Falls, IsWhole, Rises}, specs.Firsts.rows_in, specs.Ranks.{IsRanking, Ranking, arrived, listed, row_entry}, proofs.Arrived.{all_arrived, last_ahead, none_arrived, one_arrived, HaveArrived}, proofs.Inserted.{distinct_front, distinct_permuted, every_permuted, in_permuted, in_step, last_has, out_step, place_out}, proofs.Ranked.arrived_whole, proofs.RankedEdits.listed_more}
 use Rattle.sort_op.proofs.row_order.RowOrder.insert_rows.Goals as goal
 
 pub loop-next-init : goal.loop-next-init
@@ -10,12 +10,12 @@ loop-next-init c =
     let order = c.args.self.now in
     let was = c.args.rows.items in
     let sorted = rows_in c.in_ok-coming.coming.items in
-    let entry : Row → Entry = arrived order in
+    let entry : OrderedRow → Entry = arrived order in
     let shuffled : IsPermutation (map entry was) (map entry sorted) = IsPermutation-map entry was sorted c.in_ok-coming.ensures.permutation in
     record {
       same = refl;
       kept = λ x. refl;
-      known = every_permuted (λ (row : Row). key_with row.handle order.handles ≡ Some row.key) was sorted c.in_ok-coming.ensures.permutation c.requires.known;
+      known = every_permuted (λ (row : OrderedRow). key_with row.handle order.handles ≡ Some row.key) was sorted c.in_ok-coming.ensures.permutation c.requires.known;
       out = every_permuted (λ x. is_in x (listed order) ≡ false) (map entry was) (map entry sorted) shuffled (every-map (λ x. is_in x (listed order) ≡ false) entry was c.requires.absent);
       distinct = distinct_permuted (map entry was) (map entry sorted) shuffled c.requires.distinct;
       rises = (subst IsRanking c.self.view_is c.self.invariant).rising;
@@ -28,14 +28,14 @@ insert-requires-clause-known c =
     let row = c.in-Some.next.row in
     let rest = rows_in c.pop.new.self.items in
     let items : rows_in c.loop-next.coming.items ≡ rest ++ row ∷ [] = ap rows_in c.in-Some.ensures.items ∙ map-append (λ (next : Coming). next.row) c.pop.new.self.items (c.in-Some.next ∷ []) in
-    let known = every_back (λ (row : Row). key_with row.handle c.args.self.now.handles ≡ Some row.key) rest (row ∷ []) (subst (AllByRecursion (λ (row : Row). key_with row.handle c.args.self.now.handles ≡ Some row.key)) items c.loop-next.invariant.known) in
+    let known = every_back (λ (row : OrderedRow). key_with row.handle c.args.self.now.handles ≡ Some row.key) rest (row ∷ []) (subst (AllByRecursion (λ (row : OrderedRow). key_with row.handle c.args.self.now.handles ≡ Some row.key)) items c.loop-next.invariant.known) in
     subst (λ (order : Ranking). key_with row.handle order.handles ≡ Some row.key) (sym c.loop-next.invariant.same) known.0
 
 pub insert-requires-clause-absent : goal.insert-requires-clause-absent
 insert-requires-clause-absent c =
     let row = c.in-Some.next.row in
     let rest = rows_in c.pop.new.self.items in
-    let entry : Row → Entry = arrived c.args.self.now in
+    let entry : OrderedRow → Entry = arrived c.args.self.now in
     let items : rows_in c.loop-next.coming.items ≡ rest ++ row ∷ [] = ap rows_in c.in-Some.ensures.items ∙ map-append (λ (next : Coming). next.row) c.pop.new.self.items (c.in-Some.next ∷ []) in
     let split : map entry (rows_in c.loop-next.coming.items) ≡ map entry rest ++ entry row ∷ [] = ap (map entry) items ∙ map-append entry rest (row ∷ []) in
     let now = listed c.loop-next.self in
@@ -46,7 +46,7 @@ pub insert-requires-clause-last : goal.insert-requires-clause-last
 insert-requires-clause-last c = λ last.
     let row = c.in-Some.next.row in
     let rest = rows_in c.pop.new.self.items in
-    let entry : Row → Entry = arrived c.args.self.now in
+    let entry : OrderedRow → Entry = arrived c.args.self.now in
     let items : rows_in c.loop-next.coming.items ≡ rest ++ row ∷ [] = ap rows_in c.in-Some.ensures.items ∙ map-append (λ (next : Coming). next.row) c.pop.new.self.items (c.in-Some.next ∷ []) in
     let split : map entry (rows_in c.loop-next.coming.items) ≡ map entry rest ++ entry row ∷ [] = ap (map entry) items ∙ map-append entry rest (row ∷ []) in
     let now = listed c.loop-next.self in
@@ -58,7 +58,7 @@ loop-next-preserved c =
     let first = c.args.self.now in
     let row = c.in-Some.next.row in
     let rest = rows_in c.pop.new.self.items in
-    let entry : Row → Entry = arrived first in
+    let entry : OrderedRow → Entry = arrived first in
     let all = map entry (rows_in c.in_ok-coming.coming.items) in
     let items : rows_in c.loop-next.coming.items ≡ rest ++ row ∷ [] = ap rows_in c.in-Some.ensures.items ∙ map-append (λ (next : Coming). next.row) c.pop.new.self.items (c.in-Some.next ∷ []) in
     let split : map entry (rows_in c.loop-next.coming.items) ≡ map entry rest ++ entry row ∷ [] = ap (map entry) items ∙ map-append entry rest (row ∷ []) in
@@ -66,7 +66,7 @@ loop-next-preserved c =
     let new = listed c.insert.new.self in
     let place = c.in_ok-position.position in
     let same = c.loop-next.invariant.same in
-    let known = (every_back (λ (row : Row). key_with row.handle first.handles ≡ Some row.key) rest (row ∷ []) (subst (AllByRecursion (λ (row : Row). key_with row.handle first.handles ≡ Some row.key)) items c.loop-next.invariant.known)) in
+    let known = (every_back (λ (row : OrderedRow). key_with row.handle first.handles ≡ Some row.key) rest (row ∷ []) (subst (AllByRecursion (λ (row : OrderedRow). key_with row.handle first.handles ≡ Some row.key)) items c.loop-next.invariant.known)) in
     let more : new ≡ insert old place (entry row) =
     ap listed c.in_ok-position.ensures.rows
     ∙ listed_more c.loop-next.self row place (subst (λ (order : Ranking). key_with row.handle order.handles ≡ Some row.key) (sym same) known.0)
@@ -85,7 +85,7 @@ loop-next-preserved c =
           ∙ in_step x old place (entry row) (map entry rest)
           ∙ ap (λ items. is_in x old || is_in x items) (sym split)
           ∙ c.loop-next.invariant.kept x;
-      known = every_front (λ (row : Row). key_with row.handle first.handles ≡ Some row.key) rest (row ∷ []) (subst (AllByRecursion (λ (row : Row). key_with row.handle first.handles ≡ Some row.key)) items c.loop-next.invariant.known);
+      known = every_front (λ (row : OrderedRow). key_with row.handle first.handles ≡ Some row.key) rest (row ∷ []) (subst (AllByRecursion (λ (row : OrderedRow). key_with row.handle first.handles ≡ Some row.key)) items c.loop-next.invariant.known);
       out = subst (λ now. AllByRecursion (λ x. is_in x now ≡ false) (map entry rest)) (sym more) (out_step old place (entry row) (map entry rest) distinct out);
       distinct = distinct_front (map entry rest) (entry row) distinct;
       rises = rises_now;
@@ -103,7 +103,7 @@ loop-next-preserved c =
 pub returns-clause-listed : goal.returns-clause-listed
 returns-clause-listed c = λ x.
     let none = ap rows_in (nil_from_length c.loop-next.coming.items (omega (arith, c.in_default.ensures.cases.0, c.loop-next.coming.ok.0))) in
-    let entry : Row → Entry = arrived c.args.self.now in
+    let entry : OrderedRow → Entry = arrived c.args.self.now in
     sym (or_false (is_in x (listed c.loop-next.self)))
     ∙ ap (λ items. is_in x (listed c.loop-next.self) || is_in x (map entry items)) (sym none)
     ∙ c.loop-next.invariant.kept x
@@ -112,7 +112,7 @@ returns-clause-listed c = λ x.
 pub returns-clause-positions : goal.returns-clause-positions
 returns-clause-positions c =
     let none = ap rows_in (nil_from_length c.loop-next.coming.items (omega (arith, c.in_default.ensures.cases.0, c.loop-next.coming.ok.0))) in
-    let entry : Row → Entry = arrived c.args.self.now in
+    let entry : OrderedRow → Entry = arrived c.args.self.now in
     let all = map entry (rows_in c.in_ok-coming.coming.items) in
     let now = listed c.loop-next.self in
     all_arrived c.args.self.now.by (map entry c.args.rows.items) all now c.loop-next.positions.items (IsPermutation-map entry c.args.rows.items (rows_in c.in_ok-coming.coming.items) c.in_ok-coming.ensures.permutation)

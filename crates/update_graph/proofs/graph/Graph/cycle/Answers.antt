@@ -15,12 +15,12 @@ pub returns-clause-reads : goal.returns-clause-reads
 returns-clause-reads g c =
     let run = c.args.run.now in
     let reads = c.in_ok-graph.graph.reads in
-    subst (λ (v : GraphView). read_in run (v.step + 1) reads ≤ most_in run (v.step + 1)) c.self-2.view_is (all_within run (c.self-2.inside.step + 1) reads c.in_ok-graph.ensures.reached.stepped)
+    subst (λ (v : GraphView). read_in run (v.step + 1) reads ≤ most_in run (v.step + 1)) c.self.view_is (all_within run (c.self.inside.step + 1) reads c.in_ok-graph.ensures.reached.stepped)
 
 pub returns-clause-steps : goal.returns-clause-steps
 returns-clause-steps g c =
     let run = c.args.run.now in
-    let step = c.self-2.inside.step + 1 in
+    let step = c.self.inside.step + 1 in
     let works = c.in_ok-base.works.items in
     subst (λ reads. SteppedOnce run reads c.in_ok-graph.graph.reads) c.in_ok-base.ensures.reads
     (subst (SteppedOnce run (all_reads works)) (sym c.in_ok-graph.ensures.reads)
