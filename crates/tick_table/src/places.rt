@@ -9,7 +9,7 @@ ghost use Rattle.row_set.specs.Sets.{IsKeySet, count_below, found};
 use row_set::{Range, RowSet};
 use std::marker::Model;
 
-/// So many ranges are passed one by one before a key is searched for.
+/// At most so many ranges are passed one by one before a key is searched for.
 const FEW: usize = 8;
 
 /// A set of keys, in which a key is looked for from the range on that was come to last: keys that are asked for in rising order
@@ -23,6 +23,8 @@ pub(crate) struct KeyCursor<'t> {
     passed: usize,
     /// How many keys those hold.
     before: u64,
+    /// So many ranges are passed one by one next time. Each time that they are too few it is halved.
+    step: usize,
 }
 
 impl<'t> Model for KeyCursor<'t> {
@@ -75,25 +77,28 @@ impl<'t> KeyCursor<'t> {
             ranges: set.ranges(),
             passed: 0,
             before: 0,
+            step: FEW,
         }
     }
 
     /// The position of a key, or else, as an error, the number of smaller keys. A key that is less than one before it, or far
-    /// behind it, is searched for.
+    /// behind it, is searched for; where that goes on, no range is passed any more.
     pub(crate) fn find(&mut self, key: u64) -> Result<u64, u64>
         ensures same { self.new ≡ self.old }
         ensures position { result ≡ found key self.old }
         ensures keys { IsKeySet self.old }
     {
-        let end = self.passed.saturating_add(FEW).min(self.ranges.len());
+        let end = self.passed.saturating_add(self.step).min(self.ranges.len());
         while self.passed < end && self.ranges[self.passed].last < key {
             let range = self.ranges[self.passed];
             self.before += range.last - range.first + 1;
             self.passed += 1;
         }
         if ends_at(self.ranges, self.passed, key) {
+            self.step = FEW;
             found_at(self.ranges, self.passed, self.before, key)
         } else {
+            self.step /= 2;
             self.set.find(key)
         }
     }
