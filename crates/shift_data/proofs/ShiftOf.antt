@@ -1,45 +1,23 @@
 -- The ranges of rising pairs of keys are those of a shift.
-use Rattle.std.proofs.Common.{◌≡◌, refl, true, false, cond, ℕ, ◌+◌, ◌-◌, ◌^◌, ◌<◌, ◌≤◌, arith, List, [], ◌∷◌, map, pos, negsuc, ◌-ℤ◌}
+use Rattle.std.proofs.Common.{◌≡◌, refl, true, false, cond, ℕ, suc, ◌-◌, ◌^◌, ◌<◌, ◌≤◌, arith, List, [], ◌∷◌, map, pos, negsuc, ◌-ℤ◌}
 use Rattle.std.{specs.Prelude.{filter, ◌<ℤ◌}, specs.List.AllByRecursion, specs.Ordering.int_eq, proofs.lemmas.Bool.not-true, proofs.lemmas.Int.ints}
 use Rattle.key_lists.{specs.Keys.IsRising, proofs.Every.{every, every_weaker, every-filter}}
 use Rattle.tick_model.{specs.declared.update.ShiftRange.ShiftRange, specs.declared.update.KeyPair.KeyPair, specs.Printable.{IsShift, IsShiftRange}, specs.Shifts.{delta, one, extend, stretches, shifted}}
+use Rattle.tick_laws.proofs.Moves.{IsApart, stretches_apart}
 use Rattle.shift_data.{specs.ShiftLists.IsShiftList, specs.Stretches.is_moving}
 
--- the ranges lie apart, from a first key on
-abbrev pub AreApart : ℕ → List ShiftRange → Type 0
-AreApart low [] = Unit {0}
-AreApart low (range ∷ ranges) = (low ≤ range.begin) × (range.begin ≤ range.end) × AreApart (range.end + 1) ranges
-
-apart_lower : (low lower : ℕ) (ranges : List ShiftRange) → lower ≤ low → AreApart low ranges → AreApart lower ranges
-apart_lower low lower [] le h = tt
-apart_lower low lower (range ∷ ranges) le h = (omega arith, h.1, h.2)
-
-extend_apart : (pair : KeyPair) (ranges : List ShiftRange) → AreApart (pair.old + 1) ranges → AreApart pair.old (extend pair ranges)
-extend_apart pair [] h = (omega arith, omega arith, tt)
-extend_apart pair (range ∷ ranges) h =
-    elim (int_eq (delta pair) range.delta) as (λ b. AreApart pair.old (cond b ((record range { begin = pair.old }) ∷ ranges) (one pair ∷ range ∷ ranges))) [
-      | true ↦ (omega arith, omega (arith, h.0, h.1), h.2)
-      | false ↦ (omega arith, omega arith, h)
-    ]
-
-stretches_apart : (low : ℕ) (pairs : List KeyPair) → AllByRecursion (λ key. low ≤ key) (map (λ pair. pair.old) pairs) → IsRising (map (λ pair. pair.old) pairs) → AreApart low (stretches pairs)
-stretches_apart low [] above rising = tt
-stretches_apart low (pair ∷ pairs) above rising =
-    apart_lower pair.old low (extend pair (stretches pairs)) above.0
-    (extend_apart pair (stretches pairs) (stretches_apart (pair.old + 1) pairs (every_weaker (λ key. pair.old < key) (λ key. pair.old + 1 ≤ key) (map (λ (pair : KeyPair). pair.old) pairs) (λ key more. omega (arith, more)) rising.0) rising.1))
-
 -- those that move ascend and are disjoint
-each_past : (low : ℕ) (ranges : List ShiftRange) → AreApart (low + 1) ranges → AllByRecursion (λ next. low < next.begin) ranges
+each_past : (low : ℕ) (ranges : List ShiftRange) → IsApart (suc low) ranges → AllByRecursion (λ next. low < next.begin) ranges
 each_past low [] h = tt
 each_past low (range ∷ ranges) h =
     (omega (arith, h.0), every_weaker (λ (next : ShiftRange). range.end < next.begin) (λ next. low < next.begin) ranges (λ next more. omega (arith, more, h.0, h.1)) (each_past range.end ranges h.2))
 
-apart_moving : (low : ℕ) (ranges : List ShiftRange) → AreApart low ranges → IsShift (filter is_moving ranges)
+apart_moving : (low : ℕ) (ranges : List ShiftRange) → IsApart low ranges → IsShift (filter is_moving ranges)
 apart_moving low [] h = tt
 apart_moving low (range ∷ ranges) h =
     (elim (is_moving range) as (λ b. is_moving range ≡ b → IsShift (cond b (range ∷ filter is_moving ranges) (filter is_moving ranges))) [
-      | true ↦ λ e. (h.1, not-true (int_eq range.delta (pos 0)) e, every-filter (λ (next : ShiftRange). range.end < next.begin) is_moving ranges (each_past range.end ranges h.2), apart_moving (range.end + 1) ranges h.2)
-      | false ↦ λ e. apart_moving (range.end + 1) ranges h.2
+      | true ↦ λ e. (h.1, not-true (int_eq range.delta (pos 0)) e, every-filter (λ (next : ShiftRange). range.end < next.begin) is_moving ranges (each_past range.end ranges h.2), apart_moving (suc range.end) ranges h.2)
+      | false ↦ λ e. apart_moving (suc range.end) ranges h.2
     ]) refl
 
 -- their ends are keys, and they move by less than there are keys

@@ -14,7 +14,8 @@ ghost use Rattle.shift_data.specs.Parts.{IsLastUpTo};
 
 use crate::ahead::{runs_from, shifts_from};
 use crate::apply::{landing, moved_keys};
-use crate::parts::{Part, last_up_to, part_through, segment_at};
+use crate::canonical::canonical_through;
+use crate::parts::{Part, last_up_to, segment_at};
 use row_set::{Range, RowSet};
 use std::alloc::{AllocError, Global};
 use tick_model::update::ShiftRange;
@@ -42,12 +43,12 @@ pub(crate) fn move_keys(
     }
 }
 
-/// The keys, moved by one shift and then by the next: once, where all keys move alike.
+/// The keys, moved by one shift and then by the next: at once, where both have few ranges.
 pub(crate) fn move_through(
     alloc: Global,
     shifts: &[ShiftRange],
     next: &[ShiftRange],
-    mut keys: RowSet,
+    keys: RowSet,
 ) -> Result<RowSet, AllocError>
     requires shifts { IsShiftList shifts.now }
     requires next { IsShiftList next.now }
@@ -55,17 +56,13 @@ pub(crate) fn move_through(
     requires next_lawful { IsLawful next.now (landed shifts.now keys) }
     ensures { IfOk result (λ places. places ≡ landed next.now (landed shifts.now keys)) }
 {
-    let Some(part) = part_through(shifts, next, &keys, 0) else {
-        return Ok(keys);
-    };
-    if keys.next_from(part.last + 1).is_some() {
+    let _ = keys.ranges();
+    if shifts.len().saturating_add(next.len()) > FEW_RANGES {
         let places = move_keys(alloc, shifts, keys)?;
         return move_keys(alloc, next, places);
     }
-    if part.delta != 0 {
-        keys.shift_range(part.first, part.last, part.delta)?;
-    }
-    Ok(keys)
+    let both = canonical_through(alloc, shifts, next, &keys)?;
+    move_ranges(&both, keys)
 }
 
 /// Whether one of eight ranges of keys moves, or more, as far as those that the shift meets can tell. About there the cost of

@@ -173,8 +173,8 @@ impl ShiftData {
         move_keys(*self.ranges.allocator(), &self.ranges, keys)
     }
 
-    /// The same keys, moved where they lie by this shift and then by the next: once, where all move alike. After a refusal the
-    /// keys are gone.
+    /// The same keys, moved where they lie by this shift and then by the next: at once, where both have few ranges. After a
+    /// refusal the keys are gone.
     pub fn apply_both_in_place(&self, next: &ShiftData, keys: RowSet) -> Result<RowSet, AllocError>
         requires lawful { IsLawful self.now keys }
         requires next_lawful { IsLawful next.now (landed self.now keys) }

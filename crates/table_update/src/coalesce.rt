@@ -33,22 +33,17 @@ impl Update {
         }
     }
 
-    /// The keys of a table, made those that it has after this update and then the next one. Where both move all rows, many
-    /// keys are gone over once. After a refusal they are gone.
+    /// The keys of a table, made those that it has after this update and then the next one. Where both move rows, many keys
+    /// are gone over once. After a refusal they are gone.
     pub fn apply_both_to_keys(&self, next: &Update, keys: RowSet) -> Result<RowSet, AllocError>
         requires { Follow keys self.now next.now }
         ensures { IfOk result (λ after. after ≡ keys_after (keys_after keys self.now) next.now) }
     {
-        if self.moves_one_range() && next.moves_one_range() && keys.ranges().len() > FEW_RANGES {
+        if !self.is_still() && !next.is_still() && keys.ranges().len() > FEW_RANGES {
             self.apply_at_once(next, keys)
         } else {
             next.apply_to_keys(self.apply_to_keys(keys)?)
         }
-    }
-
-    /// Whether the rows of one range move.
-    fn moves_one_range(&self) -> bool {
-        self.shifted().ranges().len() == 1
     }
 
     /// The keys after this update and then the next one: those of the rows that both keep move by both at once.
