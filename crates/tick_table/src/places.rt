@@ -67,6 +67,36 @@ fn found_at(ranges: &[Range], index: usize, before: u64, key: u64) -> Result<u64
     }
 }
 
+/// The ranges that end before a key.
+#[derive(Clone, Copy)]
+struct Passed {
+    ranges: usize,
+    /// How many keys they hold.
+    keys: u64,
+}
+
+/// Searches for the ranges of a set that end before a key.
+fn passed_before(set: &RowSet, ranges: &[Range], key: u64) -> Passed
+    requires apart { AreApart 0 ranges.now }
+    requires held { keys_of ranges.now ≡ set.now }
+    ensures within { result.ranges ≤ length ranges.now }
+    ensures ended { AllByRecursion (λ range. range.last < key) (take result.ranges ranges.now) }
+    ensures others { AllByRecursion (λ range. key ≤ range.last) (drop result.ranges ranges.now) }
+    ensures keys { result.keys ≡ keys_before result.ranges ranges.now }
+{
+    let passed = ranges.partition_point(|range| range.last < key);
+    let below = set.count_below(key);
+    let within = if passed < ranges.len() {
+        key.saturating_sub(ranges[passed].first)
+    } else {
+        0
+    };
+    Passed {
+        ranges: passed,
+        keys: below.saturating_sub(within),
+    }
+}
+
 impl<'t> KeyCursor<'t> {
     /// A set of which no key was asked for.
     pub(crate) fn of(set: &'t RowSet) -> KeyCursor<'t>
@@ -82,7 +112,7 @@ impl<'t> KeyCursor<'t> {
     }
 
     /// The position of a key, or else, as an error, the number of smaller keys. A key that is less than one before it, or far
-    /// behind it, is searched for; where that goes on, no range is passed any more.
+    /// behind it, is searched for, and the next one is looked for from there on; where that does not help, each is searched for.
     pub(crate) fn find(&mut self, key: u64) -> Result<u64, u64>
         ensures same { self.new ≡ self.old }
         ensures position { result ≡ found key self.old }
@@ -96,11 +126,16 @@ impl<'t> KeyCursor<'t> {
         }
         if ends_at(self.ranges, self.passed, key) {
             self.step = FEW;
-            found_at(self.ranges, self.passed, self.before, key)
-        } else {
-            self.step /= 2;
-            self.set.find(key)
+            return found_at(self.ranges, self.passed, self.before, key);
         }
+        if self.step == 0 {
+            return self.set.find(key);
+        }
+        self.step /= 2;
+        let Passed { ranges, keys } = passed_before(self.set, self.ranges, key);
+        self.passed = ranges;
+        self.before = keys;
+        found_at(self.ranges, ranges, keys, key)
     }
 
     /// The position of a key of the set.

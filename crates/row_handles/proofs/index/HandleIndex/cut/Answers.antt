@@ -1,6 +1,6 @@
 use Rattle.std.proofs.Common.{◌-◌, ◌<◌, ◌≤◌, ap, sym, subst, take, drop, length, take_all, arith}
 use Rattle.std.{specs.List.AllByRecursion, proofs.lemmas.Result.on_ok_weaker}
-use Rattle.row_handles.{specs.Moves.IsCut, proofs.Listings.own_ascend, proofs.Cutting.{found_made, found_first, found_past, found_cut, cut_none, beside_above}, proofs.index.Index.cut.Goals.{then-from-eq0-via-then-from-eq0, then-from-eq0-via-else-from-eq0+then-from-len}}
+use Rattle.row_handles.{specs.Moves.IsCut, proofs.Listings.own_ascend, proofs.Cutting.{found_made, found_first, found_past, found_cut, cut_none, beside_above}, proofs.index.HandleIndex.cut.Goals.{then-from-eq0-via-then-from-eq0, then-from-eq0-via-else-from-eq0+then-from-len}}
 use Rattle.row_handles.proofs.index.HandleIndex.cut.Goals as goal
 
 pub returns-then-next-eq0-clause-ok : goal.returns-then-next-eq0-clause-ok
