@@ -5,7 +5,7 @@ use Rattle.key_lists.{specs.Keys.is_among, proofs.Every.{every_both, every_weake
 use Rattle.row_set.specs.Sets.{IsKeySet}
 use Rattle.tick_model.{specs.Tables.same_cells, specs.declared.update.ShiftRange.ShiftRange}
 use Rattle.row_handles.specs.Entries.{AreHandled, Ascend, Entry, entry_of, handle_under, key_with, keys_of as entry_keys, left_rows, moved_rows, with_row as entries_with}
-use Rattle.row_groups.{specs.declared.place.GroupRow.GroupRow, specs.declared.lists.Lists.Lists, specs.declared.table.Table.Table, specs.Members.{AreGrouped, Member, by_at, group_of, keys_of, left_members, member_of, member_under, moved_member, moved_members, placed, with_member}, specs.Slots.{AreKnown, AreRanked, IsGroup, IsParted, is_before, key_in, member_at, slots_with, slots_without}, specs.Rows.{AreListed, Becomes, ByNumber, IsKept, IsSame, Row, at_in, cells_in, group_rows, members_of, row_of, row_placed, rows_by_at, rows_of, slot_of, slots_under}, proofs.Order.{at_most, less, less_above, less_below, less_itself, less_through}, proofs.Ranks.{Ascends, Ranked, before, every-by_at, every-group, group_ranked, group_with, group_without, put_in, with_row}, proofs.Ends.{failed_all, passed_all}, proofs.Keys.{known_all, small_key}, proofs.Parts.unlike}
+use Rattle.row_groups.{specs.declared.place.GroupRow.GroupRow, specs.declared.lists.Lists.Lists, specs.declared.table.Table.Table, specs.Members.{AreGrouped, Member, by_at, group_of, keys_of, left_members, member_of, member_under, moved_member, moved_members, placed, with_member}, specs.Slots.{AreKnown, AreRanked, IsGroup, IsParted, handle_from, is_before, key_in, member_at, slots_with, slots_without}, specs.Rows.{AreListed, Becomes, ByNumber, IsKept, IsSame, Row, at_in, cells_in, group_rows, members_of, row_of, row_placed, rows_by_at, rows_of, slot_of, slots_under}, proofs.Order.{at_most, less, less_above, less_below, less_itself, less_through}, proofs.Ranks.{Ascends, Ranked, before, every-by_at, every-group, group_ranked, group_with, group_without, put_in, with_row}, proofs.Ends.{failed_all, passed_all}, proofs.Keys.{known_all, small_key}, proofs.Parts.unlike}
 
 -- a group of rows has the members of the group
 placed_members : (row : Row) (rows : List Row) → members_of (row_placed row rows) ≡ placed row.member (members_of rows)
@@ -97,6 +97,14 @@ pub taken_again : (entries : List Entry) (at : ℤ) (key : ℕ) (slot : GroupRow
 taken_again entries at key slot [] own = ap (λ b. if b then slot ∷ [] else []) own
 taken_again entries at key slot (s ∷ slots) own = again_by entries at key slot s slots own (taken_again entries at key slot slots own) (is_before entries at key s) refl
 
+found_by : (entries : List Entry) (at : ℤ) (key : ℕ) (slot s : GroupRow) (slots : List GroupRow) → is_before entries at key slot ≡ false → handle_from entries at key (slots_with entries at key slot slots) ≡ Some slot.handle → (b : Bool) → is_before entries at key s ≡ b → handle_from entries at key (if b then s ∷ slots_with entries at key slot slots else slot ∷ s ∷ slots) ≡ Some slot.handle
+found_by entries at key slot s slots own rest true e = ap (λ b. if b then handle_from entries at key (slots_with entries at key slot slots) else Some s.handle) e ∙ rest
+found_by entries at key slot s slots own rest false e = ap (λ b. if b then handle_from entries at key (s ∷ slots) else Some slot.handle) own
+
+found_again : (entries : List Entry) (at : ℤ) (key : ℕ) (slot : GroupRow) (slots : List GroupRow) → is_before entries at key slot ≡ false → handle_from entries at key (slots_with entries at key slot slots) ≡ Some slot.handle
+found_again entries at key slot [] own = ap (λ b. if b then None else Some slot.handle) own
+found_again entries at key slot (s ∷ slots) own = found_by entries at key slot s slots own (found_again entries at key slot slots own) (is_before entries at key s) refl
+
 -- the list of a group is known, and in order
 pub slots_known : (entries : List Entry) (rows : List Row) → AllByRecursion (Knows entries) rows → AreKnown entries (map slot_of rows)
 slots_known entries rows h =
@@ -176,6 +184,14 @@ left_at entries row rows old new own known up apart listed becomes cells false e
 pub listed_without : (entries : List Entry) (row : Row) (rows : List Row) (old new : Lists) → Knows entries row → AllByRecursion (Knows entries) rows → Ascends rows → AllByRecursion (λ other. other.member.key ≢ row.member.key) rows → AreListed (with_row row rows) old
     → Becomes row.member.cells (slots_without entries row.member.at row.member.key (slots_under row.member.cells old)) old new → AreListed rows new
 listed_without entries row rows old new own known up apart listed becomes cells = left_at entries row rows old new own known up apart listed becomes cells (same_cells row.member.cells cells) refl
+
+-- the row at its place
+pub listed_from : (entries : List Entry) (row : Row) (rows : List Row) (lists : Lists) → Knows entries row → AllByRecursion (Knows entries) rows → Ascends rows → AllByRecursion (λ other. other.member.key ≢ row.member.key) rows → AreListed (with_row row rows) lists
+    → handle_from entries row.member.at row.member.key (slots_under row.member.cells lists) ≡ Some row.handle
+listed_from entries row rows lists own known up apart listed =
+    let cells = row.member.cells in
+    ap (handle_from entries row.member.at row.member.key) (listed cells ∙ ap (map slot_of) (group_with cells row rows up apart ((signed_items cells cells).1 refl)) ∙ slots_put entries row (group_rows cells rows) (every-group (Knows entries) cells rows known))
+    ∙ found_again entries row.member.at row.member.key (slot_of row) (map slot_of (group_rows cells rows)) (before_same entries row row.member.at row.member.key own ∙ less_itself row.member.at row.member.key)
 
 -- the list of a group, for a search in it
 pub listed_group : (entries : List Entry) (table : Table) (groups : ByNumber) (xs : List Entry) (lists : Lists) (cells : List ℤ) → AreListed (rows_of table groups xs) lists → AllByRecursion (λ x. key_with x.handle entries ≡ Some x.key) xs → Ascend xs → AreHandled entries → IsGroup entries (slots_under cells lists)

@@ -4,7 +4,7 @@ use Rattle.std.{specs.List.AllByRecursion, proofs.lemmas.Bool.{cases_eq, eq-eqb}
 use Rattle.key_lists.{specs.Keys.is_among, proofs.Every.{every, every_both, every_weaker, every_unmapped, every-filter, every-map, filter-map, filter_passes}}
 use Rattle.tick_model.{specs.Tables.same_cells, specs.declared.update.ShiftRange.ShiftRange, specs.Shifts.{moved, as_key}, specs.Rules.shift_fault}
 use Rattle.row_handles.{specs.Entries.{AreHandled, Entry, entry_of, handle_under, key_with, keys_of, left_rows, moved_row, moved_rows, with_row}, proofs.EntryLists.ascend-filter, proofs.Laws.{handle_under-left, key_under_handle}}
-use Rattle.row_groups.{specs.declared.table.Table.Table, specs.declared.index.GroupIndex.GroupIndex, specs.declared.lists.Lists.Lists, specs.declared.place.GroupRow.GroupRow, specs.Members.{Grouped, Member, left_members, member_of, moved_members, with_member}, specs.Slots.{IsGroup, slots_with, slots_without}, specs.Rows.{AreListed, AreNumbered, Becomes, ByNumber, IsKept, IsSame, Row, at_in, cells_in, group_rows, members_of, row_of, row_placed, rows_by_at, rows_of, slot_of, slots_numbered, slots_under, cells_with, kept_in}, specs.Indexes.{Holds, IsIndex}, proofs.Ranks.with_row as row_among, proofs.Keys.{ascending, every-with_row, handled_left, handled_moved, handled_with, known_all, left_again, left_missing, left_more, left_none, restored, under_has}, proofs.Listed.under_number, proofs.Groupings.{listed_group, listed_with, listed_without, members_left, members_moved, members_with, rows_ascend, rows_known, rows_same, rows_with}}
+use Rattle.row_groups.{specs.declared.table.Table.Table, specs.declared.index.GroupIndex.GroupIndex, specs.declared.lists.Lists.Lists, specs.declared.place.GroupRow.GroupRow, specs.Members.{Grouped, Member, left_members, member_of, moved_members, with_member}, specs.Slots.{IsGroup, handle_from, slots_with, slots_without}, specs.Rows.{AreListed, AreNumbered, Becomes, ByNumber, IsKept, IsSame, Row, at_in, cells_in, group_rows, members_of, row_of, row_placed, rows_by_at, rows_of, slot_of, slots_numbered, slots_under, cells_with, kept_in}, specs.Indexes.{Holds, IsIndex}, proofs.Ranks.with_row as row_among, proofs.Keys.{ascending, every-with_row, handled_left, handled_moved, handled_with, known_all, left_again, left_missing, left_more, left_none, restored, under_has}, proofs.Listed.under_number, proofs.Groupings.{listed_from, listed_group, listed_with, listed_without, members_left, members_moved, members_with, rows_ascend, rows_known, rows_same, rows_with}}
 
 -- rows under other keys
 abbrev move : (ℕ → ℕ) → Row → Row
@@ -368,6 +368,31 @@ group_there gone key handle index is new here =
     let cells = cells_in index.table index.lists.groups handle in
     let own = some_cells (cells_with number index.lists.groups) (kept_of gone key handle index is new here).there in
     subst (IsGroup index.handles) (under_number cells number index.lists (is.numbered.cells cells number own)) (holds_group gone index cells is)
+
+-- the row of a key at its place in its group
+pub row_there : (gone : List ℕ) (key handle : ℕ) (index : GroupIndex) → Holds (left_rows gone index.handles) index → is_among key gone ≡ false → handle_under key index.handles ≡ Some handle
+    → handle_from index.handles (at_in index.table handle) key (slots_numbered (kept_in index.table handle).number index.lists.groups) ≡ Some handle
+row_there gone key handle index is new is_here =
+    let table = index.table in
+    let groups = index.lists.groups in
+    let number = (kept_in table handle).number in
+    let cells = cells_in table groups handle in
+    let all = left_rows gone index.handles in
+    let rest = left_rows (key ∷ []) all in
+    let p = λ (x : Entry). not (is_among x.key (key ∷ [])) in
+    let q = λ (x : Entry). not (is_among x.key gone) in
+    let row = row_of table groups (entry_of key handle) in
+    let up = ascend-filter q index.handles (ascending index.handles is.handled) in
+    let known = every-filter (λ x. key_with x.handle index.handles ≡ Some x.key) q index.handles (known_all index.handles is.handled.handles) in
+    let back : rows_of table groups all ≡ row_among row (rows_of table groups rest) = ap (rows_of table groups) (restored key handle all up (still_under gone key index.handles new ∙ is_here)) ∙ rows_with table groups key handle rest in
+    let own : cells_with number groups ≡ Some cells = some_cells (cells_with number groups) (kept_of gone key handle index is new is_here).there in
+    ap (handle_from index.handles (at_in table handle) key) (sym (under_number cells number index.lists (is.numbered.cells cells number own)))
+    ∙ listed_from index.handles row (rows_of table groups rest) index.lists
+    (key_under_handle key handle index.handles is.handled is_here)
+    (rows_known index.handles table groups rest (every-filter (λ x. key_with x.handle index.handles ≡ Some x.key) p all known))
+    (rows_ascend table groups rest (ascend-filter p all up))
+    (every-map (λ other. other.member.key ≢ key) (row_of table groups) rest (every_weaker (λ x. p x ≡ true) (λ x. x.key ≢ key) rest (λ x stays eq. gone_itself key x.key (sym eq) stays) (filter_passes p all)))
+    (subst (λ rs. AreListed rs index.lists) back is.listed)
 
 pub members_removed : (keys : List ℕ) (old index : GroupIndex) (entries : List Entry) → AreGone keys old index → entries ≡ left_rows keys index.handles → members_of (rows_of index.table index.lists.groups entries) ≡ left_members keys (members_of (rows_of old.table old.lists.groups old.handles))
 members_removed keys old index entries gone left =

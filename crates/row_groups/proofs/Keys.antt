@@ -137,6 +137,9 @@ unknown_all handle (x ∷ xs) e = (
 small_keys : (xs : List Entry) → IsKeySet (keys_of xs) → AllByRecursion (λ x. x.key < 2 ^ 62) xs
 small_keys xs h = every_unmapped (λ key. key < 2 ^ 62) (λ x. x.key) xs h.small
 
+pub small_under : (key handle : ℕ) (xs : List Entry) → AreHandled xs → handle_under key xs ≡ Some handle → key < 2 ^ 62
+small_under key handle xs h here = under_has (λ x. x.key < 2 ^ 62) key handle xs (small_keys xs h.keys) here
+
 pub ascending : (xs : List Entry) → AreHandled xs → Ascend xs
 ascending xs h = ascend_by_keys xs h.keys.rising
 

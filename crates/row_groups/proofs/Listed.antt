@@ -4,7 +4,7 @@ use Rattle.std.{specs.Option.option_map_or, specs.Prelude.slice_get, specs.List.
 use Rattle.slab.{specs.Slab.{get, with_value}, proofs.SlabLemmas.Updates-with_value}
 use Rattle.tick_model.specs.Tables.{same_cells}
 use Rattle.row_handles.specs.Entries.{Entry}
-use Rattle.row_groups.{specs.declared.lists.KeyedRows.KeyedRows, specs.declared.lists.Lists.Lists, specs.declared.place.GroupRow.GroupRow, specs.Slots.{is_before, IsParted, slots_with, slots_without}, proofs.Ends.{passed_all, put_last}, specs.Rows.{AreNumbered, Becomes, ByNumber, Leads, cells_with, number_under, slots_numbered, slots_under}, proofs.Leading.{numbered_as, renumbered}, proofs.Parts.unlike}
+use Rattle.row_groups.{specs.declared.lists.KeyedRows.KeyedRows, specs.declared.lists.Lists.Lists, specs.declared.place.GroupRow.GroupRow, specs.Slots.{handle_from, is_before, IsParted, slots_with, slots_without}, proofs.Ends.{passed_all, put_last}, specs.Rows.{AreNumbered, Becomes, ByNumber, Leads, cells_with, number_under, slots_numbered, slots_under}, proofs.Leading.{numbered_as, renumbered}, proofs.Parts.unlike}
 
 -- the group with a number changes, which has these cells or is new
 pub record IsChange (cells : List ℤ) (number : ℕ) (old new : Lists) : Type 0 where
@@ -282,7 +282,20 @@ placed_last entries at key slot last slots is parted own =
     ∙ placed_with entries at key slot slots (length slots) (omega arith) (passed_all (is_before entries at key) slots (length slots) last refl is parted own)
     (subst (AllByRecursion (λ s. is_before entries at key s ≡ false)) (sym (drop_all (length slots) slots (omega arith))) tt)
 
+pub placed_from : (entries : List Entry) (at : ℤ) (key : ℕ) (slots : List GroupRow) (n : ℕ) (slot : GroupRow) → slice_get slots n ≡ Some slot → AllByRecursion (λ s. is_before entries at key s ≡ true) (take n slots) → AllByRecursion (λ s. is_before entries at key s ≡ false) (drop n slots) → Some slot.handle ≡ handle_from entries at key slots
+placed_from entries at key [] n slot e h k = absurd (none-some slot e)
+placed_from entries at key (s ∷ slots) zero slot e h k =
+    ap (λ (row : GroupRow). Some row.handle) (sym (same_Some s slot e)) ∙ sym (ap (λ b. if b then handle_from entries at key slots else Some s.handle) k.0)
+placed_from entries at key (s ∷ slots) (suc n) slot e h k =
+    placed_from entries at key slots n slot e h.1 k ∙ sym (ap (λ b. if b then handle_from entries at key slots else Some s.handle) h.0)
+
 -- where all rows stand before the place, none is there
+pub none_from : (entries : List Entry) (at : ℤ) (key : ℕ) (slots : List GroupRow) (n : ℕ) → length slots ≤ n → AllByRecursion (λ s. is_before entries at key s ≡ true) (take n slots) → None ≡ handle_from entries at key slots
+none_from entries at key [] n le h = refl
+none_from entries at key (s ∷ slots) zero le h = absurd (omega arith)
+none_from entries at key (s ∷ slots) (suc n) le h =
+    none_from entries at key slots n (omega arith) h.1 ∙ sym (ap (λ b. if b then handle_from entries at key slots else Some s.handle) h.0)
+
 pub none_there : (entries : List Entry) (at : ℤ) (key : ℕ) (slots : List GroupRow) (n : ℕ) → length slots ≤ n → AllByRecursion (λ s. is_before entries at key s ≡ true) (take n slots) → slots ≡ slots_without entries at key slots
 none_there entries at key [] n le h = refl
 none_there entries at key (s ∷ slots) zero le h = absurd (omega arith)

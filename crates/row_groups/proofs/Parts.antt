@@ -61,6 +61,9 @@ pub known_at : (entries : List Entry) (chunks : List (List GroupRow)) (i : ℕ) 
 known_at entries chunks i rows lt known e =
     subst (AreKnown entries) (sym e) (every_at (AreKnown entries) chunks i [] lt (every_chunk (λ (slot : GroupRow). IsSome (key_with slot.handle entries)) chunks known))
 
+pub row_known : (entries : List Entry) (chunks : List (List GroupRow)) (index i : ℕ) (rows : List GroupRow) (d : GroupRow) → index < length chunks → i < length rows → AreKnown entries (joined chunks) → rows ≡ list_at index chunks → IsSome (key_with (get_or rows i d).handle entries)
+row_known entries chunks index i rows d lt within known e = every_at (λ slot. IsSome (key_with slot.handle entries)) rows i d within (known_at entries chunks index rows lt known e)
+
 -- the parts of a list up to a place in its midst, and from there
 pub take_among : {X : Type 0} (xs ys zs : List X) (n m : ℕ) → length xs + m ≡ n → m ≤ length ys → take n (xs ++ (ys ++ zs)) ≡ xs ++ take m ys
 take_among [] ys zs n zero e le = ap (λ k. take k (ys ++ zs)) (sym e)

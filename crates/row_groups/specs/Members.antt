@@ -10,6 +10,7 @@
 --     IsNumberOf number cells names      it is the number of the group with these key cells, and no other is
 --     IsNumberUnder groups key number      it is the number of the group of the member under a key, if there is one
 --     IsPart part whole      each group of the part has its number in the whole
+--     IsRegrouped member old new      the member was under its key with other cells, and left before it came with its own
 use Rattle.std.{specs.Prelude.{ℕ, ◌≡◌, ◌≢◌, ◌==◌, not, nat_lt, int_lt, List, [], ◌∷◌, Option, None, Some, filter, find, length, map, option_map, slice_index_or, ℤ, if◌then◌else◌}, specs.List.AllByRecursion}
 use Rattle.key_lists.specs.Keys.{is_among}
 use Rattle.row_set.specs.Sets.{IsKeySet}
@@ -97,3 +98,10 @@ pub record IsPart (part whole : Numbered) : Type 0 where
   pub kept : (number : ℕ) (cells : List ℤ) → name_at number part.names ≡ Some cells → name_at number whole.names ≡ Some cells
   pub named : (cells : List ℤ) → ((number : ℕ) → name_at number part.names ≢ Some cells) → group_of cells part.members ≡ []
   pub alone : (number other : ℕ) (cells : List ℤ) → name_at number whole.names ≡ Some cells → name_at other whole.names ≡ Some cells → number ≡ other
+
+pub record IsRegrouped (member : Member) (old new : Numbered) : Type 0 where
+  pub between : Numbered
+  pub left : groups_of between ≡ record (groups_of old) { members = left_members (member.key ∷ []) old.members }
+  pub fewer : IsPart between old
+  pub came : groups_of new ≡ record (groups_of old) { members = with_member member between.members }
+  pub more : IsPart between new

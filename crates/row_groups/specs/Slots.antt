@@ -3,7 +3,8 @@
 --     is_before entries at key slot      whether a row stands before a place
 --     slots_with entries at key slot slots      one row more, at a place
 --     slots_without entries at key slots      the rows without the one at a place
-use Rattle.std.{specs.Prelude.{ℕ, ◌^◌, ◌<◌, ◌≡◌, ◌&&◌, ◌||◌, Bool, true, false, nat_lt, int_lt, List, [], ◌∷◌, length, unwrap_or, IsSome, ℤ, if◌then◌else◌}, specs.List.AllByRecursion, specs.Ordering.int_eq}
+--     handle_from entries at key slots      the handle of the row at a place, or None where there is none
+use Rattle.std.{specs.Prelude.{ℕ, ◌^◌, ◌<◌, ◌≡◌, ◌&&◌, ◌||◌, Bool, true, false, nat_lt, int_lt, List, [], ◌∷◌, Option, None, Some, length, unwrap_or, IsSome, ℤ, if◌then◌else◌}, specs.List.AllByRecursion, specs.Ordering.int_eq}
 use Rattle.chunk_list.specs.Chunked.{joined}
 use Rattle.row_handles.specs.Entries.{Entry, AreHandled, key_with}
 use Rattle.row_groups.{specs.declared.place.GroupRow.GroupRow, specs.Members.{Member, member_of}}
@@ -25,6 +26,10 @@ slots_with entries at key slot (other ∷ others) =
 abbrev pub slots_without : List Entry → ℤ → ℕ → List GroupRow → List GroupRow
 slots_without entries at key [] = []
 slots_without entries at key (other ∷ others) = if is_before entries at key other then other ∷ slots_without entries at key others else others
+
+abbrev pub handle_from : List Entry → ℤ → ℕ → List GroupRow → Option ℕ
+handle_from entries at key [] = None
+handle_from entries at key (slot ∷ slots) = if is_before entries at key slot then handle_from entries at key slots else Some slot.handle
 
 -- what passes comes first
 abbrev pub IsParted : {X : Type 0} → (X → Bool) → List X → Type 0

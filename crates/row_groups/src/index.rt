@@ -41,7 +41,7 @@ impl GroupIndex {
     }
 
     /// Puts a row that has its handle into its group, which may have the number `near`. Returns the number of the group.
-    fn enter(
+    pub(crate) fn enter(
         &mut self,
         handle: Handle,
         key: u64,

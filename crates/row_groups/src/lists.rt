@@ -1,10 +1,11 @@
 //! The rows of each group, in order, by the number of the group.
 ghost use Rattle.std.specs.Prelude.{◌≡◌, ◌≢◌, ◌∷◌, ℕ, List, ℤ, [], None, Some, IfOk, IsSome, OnErr};
-ghost use Rattle.row_groups.specs.Slots.{AreKnown, is_before, IsParted, slots_with, slots_without};
+ghost use Rattle.row_groups.specs.Slots.{AreKnown, handle_from, is_before, IsParted, slots_with, slots_without};
 
 use crate::numbers::GroupNumbers;
 use crate::place::{GroupRow, SearchKey};
 use crate::sequence::Sequence;
+use row_handles::Handle;
 use slab::Slab;
 use std::alloc::{AllocError, Global};
 
@@ -133,22 +134,24 @@ impl Lists {
         }
     }
 
-    /// Takes out the row at a place of a group, and gives up the group if it has no other.
-    pub(crate) fn take(&mut self, number: usize, place: &SearchKey<'_>)
+    /// Takes out the row at a place of a group, and gives up the group if it has no other. Returns the handle of the row.
+    pub(crate) fn take(&mut self, number: usize, place: &SearchKey<'_>) -> Option<Handle>
         requires sound { AreNumbered self.old }
         requires there { IsSome (cells_with number self.old.groups) }
         requires known { AreKnown place.now.handles.now (slots_numbered number self.old.groups) }
         requires parted { IsParted (is_before place.now.handles.now place.now.at place.now.key) (slots_numbered number self.old.groups) }
         ensures rows { (cells : List ℤ) → cells_with number self.old.groups ≡ Some cells → Becomes cells (slots_without place.now.handles.now place.now.at place.now.key (slots_under cells self.old)) self.old self.new }
+        ensures handle { result ≡ handle_from place.now.handles.now place.now.at place.now.key (slots_numbered number self.old.groups) }
         ensures own { slots_without place.now.handles.now place.now.at place.now.key (slots_numbered number self.old.groups) ≢ [] → cells_with number self.new.groups ≡ cells_with number self.old.groups }
         ensures others { (other : ℕ) → other ≢ number → cells_with other self.new.groups ≡ cells_with other self.old.groups }
         ensures fewer { (other : ℕ) (cells : List ℤ) → cells_with other self.new.groups ≡ Some cells → cells_with other self.old.groups ≡ Some cells }
         ensures sound { AreNumbered self.new }
     {
         let rows = &mut self.groups[number].rows;
-        rows.take(place);
+        let handle = rows.take(place);
         if rows.is_empty() {
             self.give_up(number);
         }
+        handle
     }
 }

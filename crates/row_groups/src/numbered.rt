@@ -1,8 +1,8 @@
 //! The index itself.
-ghost use Rattle.std.specs.Prelude.{◌≡◌, ◌≢◌, ◌↔◌, ℕ, List, ℤ, ◌<◌, ◌≤◌, ◌^◌, [], None, Some, IfOk, IfSome, IsSome, IsTrue, length, option_map, true, OnOk, OnErr};
+ghost use Rattle.std.specs.Prelude.{◌≡◌, ◌≢◌, ◌↔◌, ℕ, List, ℤ, ◌<◌, ◌≤◌, ◌^◌, ◌∷◌, [], None, Some, IfOk, IfSome, IsSome, IsTrue, length, option_map, true, OnOk, OnErr};
 ghost use Rattle.std.specs.List.{AllByRecursion, AllZip};
 ghost use Rattle.tick_model.specs.Rules.{shift_fault};
-ghost use Rattle.row_groups.specs.Members.{AreGrouped, IsNumberOf, IsNumberUnder, IsPart, group_of, groups_of, keys_of, left_members, member_of, member_under, moved_members, name_at, with_member};
+ghost use Rattle.row_groups.specs.Members.{AreGrouped, IsNumberOf, IsNumberUnder, IsPart, IsRegrouped, group_of, groups_of, keys_of, left_members, member_of, member_under, moved_members, name_at, with_member};
 
 use crate::group::Group;
 use crate::index::GroupIndex;
@@ -196,5 +196,27 @@ impl NumberedGroups {
         ensures names { IsPart self.new self.old }
     {
         self.index.remove_numbered(keys, numbers, at);
+    }
+
+    /// Puts a row, whose group has this number and whose `at` is this, into the group of other cells. It keeps its handle. Where
+    /// its group now has the number `near`, no hash is taken. Returns the number of its group now. After a refusal, which comes
+    /// where memory runs out, the row is taken out.
+    pub fn regroup(
+        &mut self,
+        key: u64,
+        number: usize,
+        cells: &[i64],
+        at: i64,
+        near: usize,
+    ) -> Result<usize, AllocError>
+        requires there { IsSome (member_under key self.old.members) }
+        requires number { IsNumberUnder self.old key number }
+        requires at { option_map (λ member. member.at) (member_under key self.old.members) ≡ Some at }
+        requires width { length cells.now ≡ self.old.width }
+        ensures regrouped { OnOk result (IsRegrouped (member_of key cells.now at) self.old self.new) }
+        ensures refused { OnErr result (groups_of self.new ≡ record (groups_of self.old) { members = left_members (key ∷ []) self.old.members }) }
+        ensures number { IfOk result (λ number. IsNumberOf number cells.now self.new.names) }
+    {
+        self.index.regroup(key, number, cells, at, near)
     }
 }

@@ -1,7 +1,8 @@
 //! The search for a place among the rows of a group, which stand in chunks.
-ghost use Rattle.std.specs.Prelude.{◌≡◌, ◌+◌, ◌<◌, ◌≤◌, true, false, length, take, drop};
+ghost use Rattle.std.specs.Prelude.{◌≡◌, ◌+◌, ◌<◌, ◌≤◌, true, false, length, take, drop, IsSome};
 ghost use Rattle.std.specs.List.{AllByRecursion};
 ghost use Rattle.chunk_list.specs.Chunked.{joined, list_at, position_in};
+ghost use Rattle.row_handles.specs.Entries.{key_with};
 ghost use Rattle.row_groups.specs.Slots.{AreKnown, is_before, IsParted};
 
 use crate::place::{GroupRow, SearchKey};
@@ -21,28 +22,20 @@ fn rank(at: i64) -> u64 {
     at.abs_diff(i64::MIN)
 }
 
-/// Where a place is likely to be among so many rows or chunks, the first and the last of which are at hand: where it would be if
-/// rows stood evenly between the first row and the last by `at`, or by key where these have one `at`. Among few it is the middle.
-fn likely_place(
-    lower: &[GroupRow],
-    upper: &[GroupRow],
-    count: usize,
-    place: &SearchKey<'_>,
-) -> usize
-    requires lower { AreKnown place.now.handles.now lower.now }
-    requires upper { AreKnown place.now.handles.now upper.now }
+/// Where a place is likely to be among so many rows or chunks: where it would be if rows stood evenly between `lower`, the first
+/// row, and `upper`, the last or the one behind it, by `at`, or by key where these two have one `at`. Among few it is the middle.
+fn likely_place(lower: &GroupRow, upper: &GroupRow, count: usize, place: &SearchKey<'_>) -> usize
+    requires lower { IsSome (key_with lower.now.handle place.now.handles.now) }
+    requires upper { IsSome (key_with upper.now.handle place.now.handles.now) }
 {
     if count < FEW {
         return count / 2;
     }
-    let (Some(first), Some(last)) = (lower.first(), upper.last()) else {
-        return count / 2;
-    };
-    let (least, most, own) = if first.at == last.at {
-        let least = place.handles.key_of(first.handle);
-        (least, place.handles.key_of(last.handle), place.key)
+    let (least, most, own) = if lower.at == upper.at {
+        let least = place.handles.key_of(lower.handle);
+        (least, place.handles.key_of(upper.handle), place.key)
     } else {
-        (rank(first.at), rank(last.at), rank(place.at))
+        (rank(lower.at), rank(upper.at), rank(place.at))
     };
     let span = most.saturating_sub(least);
     let part = own.saturating_sub(least).min(span);
@@ -68,14 +61,17 @@ fn inside(guess: usize, low: usize, high: usize) -> usize
 }
 
 /// How many rows of a chunk stand before a place. It is looked for near the likely place, and farther from it by growing steps.
-fn rows_before(rows: &[GroupRow], place: &SearchKey<'_>) -> usize
+/// `upper` is the last row or the one behind it.
+fn rows_before(rows: &[GroupRow], upper: &GroupRow, place: &SearchKey<'_>) -> usize
+    requires some { 0 < length rows.now }
+    requires upper { IsSome (key_with upper.now.handle place.now.handles.now) }
     requires known { AreKnown place.now.handles.now rows.now }
     requires parted { IsParted (is_before place.now.handles.now place.now.at place.now.key) rows.now }
     ensures within { result ≤ length rows.now }
     ensures before { AllByRecursion (λ slot. is_before place.now.handles.now place.now.at place.now.key slot ≡ true) (take result rows.now) }
     ensures others { AllByRecursion (λ slot. is_before place.now.handles.now place.now.at place.now.key slot ≡ false) (drop result rows.now) }
 {
-    let mut guess = likely_place(rows, rows, rows.len(), place);
+    let mut guess = likely_place(&rows[0], upper, rows.len(), place);
     let mut step = NEAR;
     let mut low = 0;
     let mut high = rows.len();
@@ -105,7 +101,9 @@ fn chunk_before(chunks: &Chunks<GroupRow>, place: &SearchKey<'_>) -> usize
 {
     let mut low = 0;
     let mut high = chunks.len() - 1;
-    let mut guess = likely_place(chunks.chunk(0), chunks.chunk(high), chunks.len(), place);
+    let end = chunks.chunk(high);
+    let upper = &end[end.len() - 1];
+    let mut guess = likely_place(&chunks.chunk(0)[0], upper, chunks.len(), place);
     let mut step = NEAR;
     while low < high {
         let middle = inside(guess, low, high);
@@ -139,8 +137,15 @@ pub(crate) fn spot_before(chunks: &Chunks<GroupRow>, place: &SearchKey<'_>) -> S
         };
     }
     let index = chunk_before(chunks, place);
+    let rows = chunks.chunk(index);
+    let next = index + 1;
+    let upper = if next < chunks.len() {
+        &chunks.chunk(next)[0]
+    } else {
+        &rows[rows.len() - 1]
+    };
     Spot {
         index,
-        offset: rows_before(chunks.chunk(index), place),
+        offset: rows_before(rows, upper, place),
     }
 }

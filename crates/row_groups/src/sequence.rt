@@ -1,11 +1,12 @@
 //! The rows of a group in order.
 ghost use Rattle.std.specs.Prelude.{◌≡◌, ◌+◌, ◌-◌, ◌<◌, ◌≤◌, ◌++◌, ◌∷◌, ◌==◌, [], true, false, length, take, drop, slice_get, OnOk, OnErr, Some};
 ghost use Rattle.std.specs.List.{AllByRecursion};
-ghost use Rattle.row_groups.specs.Slots.{AreKnown, is_before, IsParted, slots_with, slots_without};
+ghost use Rattle.row_groups.specs.Slots.{AreKnown, handle_from, is_before, IsParted, slots_with, slots_without};
 
 use crate::place::{GroupRow, SearchKey};
 use crate::search::spot_before;
 use chunk_list::Chunks;
+use row_handles::Handle;
 use std::alloc::{AllocError, Global};
 use std::marker::Model;
 
@@ -145,16 +146,17 @@ impl Sequence {
         Ok(())
     }
 
-    /// Takes out the first row that does not stand before a place, if there is one.
-    pub(crate) fn take(&mut self, place: &SearchKey<'_>)
+    /// Takes out the first row that does not stand before a place, if there is one, and returns its handle.
+    pub(crate) fn take(&mut self, place: &SearchKey<'_>) -> Option<Handle>
         requires known { AreKnown place.now.handles.now self.old }
         requires parted { IsParted (is_before place.now.handles.now place.now.at place.now.key) self.old }
-        ensures { self.new ≡ slots_without place.now.handles.now place.now.at place.now.key self.old }
+        ensures rest { self.new ≡ slots_without place.now.handles.now place.now.at place.now.key self.old }
+        ensures handle { result ≡ handle_from place.now.handles.now place.now.at place.now.key self.old }
     {
         let end = spot_before(&self.chunks, place);
-        if let Some(spot) = self.chunks.next_item(end) {
-            self.chunks.remove(spot);
-            self.len -= 1;
-        }
+        let spot = self.chunks.next_item(end)?;
+        let row = self.chunks.remove(spot);
+        self.len -= 1;
+        Some(row.handle)
     }
 }

@@ -1,8 +1,6 @@
-use Rattle.std.proofs.Common.{◌≡◌, ◌+◌, ◌-◌, ◌<◌, Bool, true, false, List, length, arith, ℕ, ap, subst, sym, ◌∙◌, get_or, IsSome}
-use Rattle.key_lists.proofs.Parts.{every_at}
-use Rattle.row_handles.specs.Entries.{key_with}
+use Rattle.std.proofs.Common.{◌≡◌, ◌+◌, ◌-◌, ◌<◌, Bool, true, false, List, length, arith, ℕ, ap, subst, sym, ◌∙◌, get_or}
 use Rattle.chunk_list.specs.Chunked.{list_at}
-use Rattle.row_groups.{specs.declared.place.GroupRow.GroupRow, specs.Slots.is_before, proofs.Parts.{chunks_failed, chunks_passed, known_at}}
+use Rattle.row_groups.{specs.declared.place.GroupRow.GroupRow, specs.Slots.is_before, proofs.Parts.{chunks_failed, chunks_passed, row_known}}
 use Rattle.row_groups.proofs.search.chunk_before.Goals as goal
 
 same_first : (test : GroupRow → Bool) (passes : Bool) (rows others : List GroupRow) (d : GroupRow) → rows ≡ others → test (get_or rows 0 d) ≡ passes → test (get_or others 0 d) ≡ passes
@@ -10,18 +8,16 @@ same_first test passes rows others d e is = subst (λ slots. test (get_or slots 
 
 pub likely_place-guess-requires-clause-lower : goal.likely_place-guess-requires-clause-lower
 likely_place-guess-requires-clause-lower c =
-    known_at c.args.place.now.handles.now c.args.chunks.now 0 c.chunk.result.now c.requires.some c.requires.known c.chunk.ensures.items
+    row_known c.args.place.now.handles.now c.args.chunks.now 0 0 c.chunk.result.now _ c.requires.some c.chunk.ensures.some c.requires.known c.chunk.ensures.items
 
 pub likely_place-guess-requires-clause-upper : goal.likely_place-guess-requires-clause-upper
 likely_place-guess-requires-clause-upper c =
-    known_at c.args.place.now.handles.now c.args.chunks.now (c.len-high.result - 1) c.chunk-2.result.now (omega (arith, c.requires.some, c.len-high.ensures)) c.requires.known c.chunk-2.ensures.items
+    row_known c.args.place.now.handles.now c.args.chunks.now (c.len-high.result - 1) (length c.chunk-end.result.now - 1) c.chunk-end.result.now _ (omega (arith, c.requires.some, c.len-high.ensures)) (omega (arith, c.chunk-end.ensures.some)) c.requires.known c.chunk-end.ensures.items
 
 pub is_after-requires : goal.is_after-requires
 is_after-requires c =
     let middle : ℕ = c.inside-middle.result in
-    let lt : middle + 1 < length c.args.chunks.now = omega (arith, c.inside-middle.ensures.to, c.loop-low.invariant.within) in
-    every_at (λ (slot : GroupRow). IsSome (key_with slot.handle c.args.place.now.handles.now)) c.chunk-in-loop-low.result.now 0 _ c.chunk-in-loop-low.ensures.some
-    (known_at c.args.place.now.handles.now c.args.chunks.now (middle + 1) c.chunk-in-loop-low.result.now lt c.requires.known c.chunk-in-loop-low.ensures.items)
+    row_known c.args.place.now.handles.now c.args.chunks.now (middle + 1) 0 c.chunk-in-loop-low.result.now _ (omega (arith, c.inside-middle.ensures.to, c.loop-low.invariant.within)) c.chunk-in-loop-low.ensures.some c.requires.known c.chunk-in-loop-low.ensures.items
 
 pub loop-low-preserved-then-is_after : goal.loop-low-preserved-then-is_after
 loop-low-preserved-then-is_after c =

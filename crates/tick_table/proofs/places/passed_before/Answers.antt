@@ -1,5 +1,5 @@
-use Rattle.std.proofs.Common.{◌≡◌, ap, sym, ◌∙◌, rules, ◌<◌, arith, get_or, inl, inr, ltb}
-use Rattle.std.{specs.List.AllByRecursion, proofs.lemmas.Bool.cases_lt, proofs.lemmas.List.Sorted.IsPartitionPoint-from_clause}
+use Rattle.std.proofs.Common.{◌≡◌, ap, sym, ◌∙◌, rules, arith, get_or, inl, inr, ltb}
+use Rattle.std.{proofs.lemmas.Bool.cases_lt, proofs.lemmas.List.Sorted.IsPartitionPoint-from_clause}
 use Rattle.row_set.{specs.Ranges.keys_of, specs.Sets.count_below, proofs.Counts.blank, proofs.Lookups.{count_between, count_in, count_past}, proofs.Places.{ended_part, lasts_parted, not_ended_part}}
 use Rattle.tick_table.proofs.places.passed_before.Goals.{then-passed-ranges, else-passed-ranges}
 use Rattle.tick_table.proofs.places.passed_before.Goals as goal

@@ -10,12 +10,12 @@ returns-then-is_empty-clause-rows c = λ cells own.
     let old = c.args.self.now in
     let number = c.args.number in
     let group = c.index_mut.result.now in
-    let left = c.take.new.self in
+    let left = c.take-handle.new.self in
     let mid : Lists = record old { groups = with_value old.groups number (record group { rows = left }) } in
     let without = slots_without c.args.place.now.handles.now c.args.place.now.at c.args.place.now.key in
     let was = c.index_mut.ensures.value in
     let rows = group.rows in
-    let rest = c.take.ensures in
+    let rest = c.take-handle.ensures.rest in
     let changes = changed number group left old mid c.requires.sound was refl refl in
     let same = same_items cells number group old.groups was own in
     let held = under_number cells number old (c.requires.sound.cells cells number own) ∙ with_rows number old.groups group was in
@@ -28,12 +28,12 @@ returns-else-is_empty-clause-rows c = λ cells own.
     let old = c.args.self.now in
     let number = c.args.number in
     let group = c.index_mut.result.now in
-    let left = c.take.new.self in
+    let left = c.take-handle.new.self in
     let mid : Lists = record old { groups = with_value old.groups number (record group { rows = left }) } in
     let without = slots_without c.args.place.now.handles.now c.args.place.now.at c.args.place.now.key in
     let was = c.index_mut.ensures.value in
     let rows = group.rows in
-    let rest = c.take.ensures in
+    let rest = c.take-handle.ensures.rest in
     let same = same_items cells number group old.groups was own in
     let held = under_number cells number old (c.requires.sound.cells cells number own) ∙ with_rows number old.groups group was in
     subst (λ slots. Becomes cells slots old mid) (rest ∙ ap without (sym held))
@@ -44,7 +44,7 @@ returns-then-is_empty-clause-fewer c = λ other cells e.
     let old = c.args.self.now in
     let number = c.args.number in
     let group = c.index_mut.result.now in
-    let left = c.take.new.self in
+    let left = c.take-handle.new.self in
     let mid : Lists = record old { groups = with_value old.groups number (record group { rows = left }) } in
     let new = c.give_up.new.self in
     elim (cases_eq other number) [
@@ -57,7 +57,7 @@ returns-else-is_empty-clause-fewer c = λ other cells e.
     let old = c.args.self.now in
     let number = c.args.number in
     let group = c.index_mut.result.now in
-    let left = c.take.new.self in
+    let left = c.take-handle.new.self in
     let mid : Lists = record old { groups = with_value old.groups number (record group { rows = left }) } in
     sym (changes_cells number group left old mid (changed number group left old mid c.requires.sound c.index_mut.ensures.value refl refl) other) ∙ e
 
@@ -69,17 +69,17 @@ kept old number group left sound was fewer =
 pub give_up-requires : goal.give_up-requires
 give_up-requires c =
     let rows = c.index_mut.result.now.rows in
-    let left = c.take.new.self in
+    let left = c.take-handle.new.self in
     let place = c.args.place.now in
-    let fewer : length left ≤ length rows = subst (λ (slots : List GroupRow). length slots ≤ length rows) (sym c.take.ensures) (shorter place.handles.now place.at place.key rows) in
+    let fewer : length left ≤ length rows = subst (λ (slots : List GroupRow). length slots ≤ length rows) (sym c.take-handle.ensures.rest) (shorter place.handles.now place.at place.key rows) in
     let is = kept c.args.self.now c.args.number c.index_mut.result.now left c.requires.sound c.index_mut.ensures.value fewer in
     record { numbers = is.numbers; cells = is.cells; alone = is.alone }
 
 pub returns-else-is_empty-clause-sound : goal.returns-else-is_empty-clause-sound
 returns-else-is_empty-clause-sound c =
     let rows = c.index_mut.result.now.rows in
-    let left = c.take.new.self in
+    let left = c.take-handle.new.self in
     let place = c.args.place.now in
-    let fewer : length left ≤ length rows = subst (λ (slots : List GroupRow). length slots ≤ length rows) (sym c.take.ensures) (shorter place.handles.now place.at place.key rows) in
+    let fewer : length left ≤ length rows = subst (λ (slots : List GroupRow). length slots ≤ length rows) (sym c.take-handle.ensures.rest) (shorter place.handles.now place.at place.key rows) in
     let is = kept c.args.self.now c.args.number c.index_mut.result.now left c.requires.sound c.index_mut.ensures.value fewer in
     record { numbers = is.numbers; cells = is.cells; alone = is.alone }
