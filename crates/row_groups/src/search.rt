@@ -120,7 +120,7 @@ fn chunk_before(chunks: &Chunks<GroupRow>, place: &SearchKey<'_>) -> usize
     low
 }
 
-/// Where the rows before a place end.
+/// Where the rows before a place end. Where there are none, a look at the first row shows it.
 pub(crate) fn spot_before(chunks: &Chunks<GroupRow>, place: &SearchKey<'_>) -> Spot
     requires known { AreKnown place.now.handles.now (joined chunks.now) }
     requires parted { IsParted (is_before place.now.handles.now place.now.at place.now.key) (joined chunks.now) }
@@ -130,16 +130,21 @@ pub(crate) fn spot_before(chunks: &Chunks<GroupRow>, place: &SearchKey<'_>) -> S
     ensures before { AllByRecursion (λ slot. is_before place.now.handles.now place.now.at place.now.key slot ≡ true) (take (position_in chunks.now result) (joined chunks.now)) }
     ensures others { AllByRecursion (λ slot. is_before place.now.handles.now place.now.at place.now.key slot ≡ false) (drop (position_in chunks.now result) (joined chunks.now)) }
 {
-    if chunks.len() == 0 {
-        return Spot {
-            index: 0,
-            offset: 0,
-        };
+    let none = Spot {
+        index: 0,
+        offset: 0,
+    };
+    let Some(first) = chunks.first() else {
+        return none;
+    };
+    if !place.is_after(*first) {
+        return none;
     }
+    let count = chunks.len();
     let index = chunk_before(chunks, place);
     let rows = chunks.chunk(index);
     let next = index + 1;
-    let upper = if next < chunks.len() {
+    let upper = if next < count {
         &chunks.chunk(next)[0]
     } else {
         &rows[rows.len() - 1]

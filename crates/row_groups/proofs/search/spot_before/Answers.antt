@@ -1,10 +1,15 @@
-use Rattle.std.proofs.Common.{◌≡◌, ◌≤◌, true, false, subst, take, drop, length, arith, ap, sym, add-one, ◌+◌, ◌-◌, Bor, IsSome}
-use Rattle.std.specs.List.{AllByRecursion}
+use Rattle.std.proofs.Common.{◌≡◌, ◌≤◌, true, false, subst, take, drop, length, arith, ap, sym, ◌∙◌, add-one, ◌+◌, ◌-◌, Bor, IsSome}
+use Rattle.std.{specs.List.AllByRecursion, specs.Prelude.option_copied}
 use Rattle.chunk_list.specs.Chunked.{joined, list_at}
 use Rattle.row_handles.specs.Entries.{key_with}
-use Rattle.row_groups.{specs.declared.place.GroupRow.GroupRow, specs.Slots.{is_before, IsParted}, proofs.Parts.{before_in, known_at, others_in, parted_in, row_known}}
+use Rattle.row_groups.{specs.declared.place.GroupRow.GroupRow, specs.Slots.{is_before, IsParted}, proofs.Ends.failed_all, proofs.Parts.{before_in, known_at, others_in, parted_in, row_known}}
 use Rattle.row_groups.proofs.search.spot_before.Goals as goal
-use Rattle.row_groups.proofs.search.spot_before.Goals.{then-next-len, else-next-len}
+use Rattle.row_groups.proofs.search.spot_before.Goals.{then-next-count, else-next-count}
+
+pub returns-then-not-is_after-clause-others : goal.returns-then-not-is_after-clause-others
+returns-then-not-is_after-clause-others c =
+    let test = is_before c.args.place.now.handles.now c.args.place.now.at c.args.place.now.key in
+    failed_all test (joined c.args.chunks.now) c.in-Some.first.now (sym c.first.ensures ∙ ap option_copied c.in-Some.is) c.requires.parted (sym c.is_after.ensures ∙ c.if-not-is_after.true)
 
 fits : (c : goal.After-rows_before) → c.rows_before.result ≤ length (list_at c.chunk_before-index.result c.args.chunks.now)
 fits c = omega (arith, c.rows_before.ensures.within, ap length c.chunk-rows.ensures.items)
@@ -16,9 +21,9 @@ rows_before-requires-clause-upper c =
     let index = c.chunk_before-index.result in
     let rows = c.chunk-rows.result.now in
     let Known = λ (row : Bor GroupRow). IsSome (key_with row.now.handle handles) in
-    elim c.if-next-len.branch [
-      | then-next-len w ↦ subst Known (sym w.upper-is) (row_known handles chunks (index + 1) 0 w.chunk.result.now _ (omega (arith, w.if-next-len.true, c.len-2.ensures)) w.chunk.ensures.some c.requires.known w.chunk.ensures.items)
-      | else-next-len w ↦ subst Known (sym w.upper-is) (row_known handles chunks index (length rows - 1) rows _ c.chunk_before-index.ensures.within (omega (arith, c.chunk-rows.ensures.some)) c.requires.known c.chunk-rows.ensures.items)
+    elim c.if-next-count.branch [
+      | then-next-count w ↦ subst Known (sym w.upper-is) (row_known handles chunks (index + 1) 0 w.chunk.result.now _ (omega (arith, w.if-next-count.true, c.len-count.ensures)) w.chunk.ensures.some c.requires.known w.chunk.ensures.items)
+      | else-next-count w ↦ subst Known (sym w.upper-is) (row_known handles chunks index (length rows - 1) rows _ c.chunk_before-index.ensures.within (omega (arith, c.chunk-rows.ensures.some)) c.requires.known c.chunk-rows.ensures.items)
     ]
 
 pub rows_before-requires-clause-known : goal.rows_before-requires-clause-known
