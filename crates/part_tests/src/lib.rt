@@ -1,5 +1,4 @@
-//! Tests with ample memory: of the public calls of `row_set`, `shift_data` and `column_source`, of the inputs and sinks of `tick_io`, and of
-//! `SortOrder` of `sort_op`.
+//! Tests with ample memory: of the public calls of `column_source`, of the inputs and sinks of `tick_io`, and of `SortOrder` of `sort_op`.
 
 #![tactic(auto)]
 
@@ -7,9 +6,5 @@
 mod columns;
 #[cfg(test)]
 mod files;
-#[cfg(test)]
-mod key_sets;
-#[cfg(test)]
-mod moved_keys;
 #[cfg(test)]
 mod sorted_entries;

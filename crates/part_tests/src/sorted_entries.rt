@@ -1,8 +1,8 @@
 //! Entries of one ascending column: where they stand, that they leave, and that they get the keys to which rows move.
-ghost use Rattle.std.specs.Prelude.{◌≡◌, ◌∷◌, [], IfOk, length};
+ghost use Rattle.std.specs.Prelude.{◌≡◌, ◌∷◌, [], IfOk, length, pos};
 ghost use Rattle.sort_op.specs.Entries.{entries, rising_keys};
 
-use crate::moved_keys::shift;
+use shift_data::{ShiftData, ShiftFault};
 use sort_op::{Entry, SortOrder};
 use std::alloc::{AllocError, Global};
 use std::test::Fail;
@@ -20,6 +20,15 @@ fn by_first_column(alloc: Global) -> Result<SortOrder, AllocError>
         descending: false,
     })?;
     Ok(SortOrder::new(alloc, by))
+}
+
+/// The keys 1 and 2 move by 5.
+fn shift(alloc: Global) -> Result<ShiftData, ShiftFault>
+    ensures { IfOk result (λ shift. shift ≡ (record { begin = 1; end = 2; delta = pos 5 }) ∷ []) }
+{
+    let mut shift = ShiftData::new(alloc);
+    shift.push(1, 2, 5)?;
+    Ok(shift)
 }
 
 fn entry(alloc: Global, cell: i64, key: u64) -> Result<Entry, AllocError>
