@@ -1,11 +1,11 @@
 -- The numbers of touched groups, as they are noted, and the groups that have them before and after a step.
-use Rattle.std.proofs.Common.{◌≡◌, ◌≢◌, is_some, refl, ap, ap₂, sym, ◌∙◌, subst, Bool, true, false, cond, ◌||◌, ◌==◌, ℕ, zero, suc, ◌+◌, ◌<◌, arith, List, [], ◌∷◌, ◌++◌, map, filter, get_or, length, set, take, Option, Some, None, ℤ, true≢false, inl, inr, ◌⊎◌, if◌then◌else◌}
-use Rattle.std.{specs.Prelude.{slice_get, not}, specs.Cmp.Rules.signed_items, specs.List.{AllByRecursion, AllZip, list_any}, specs.Option.option_map_or, proofs.lemmas.Bool.{cases_eq, eq-eqb, eqb-true, ne_eqb, or_cases, or_right, and_parts}, proofs.lemmas.List.{get_or-set_other, get_or-set_same, map-append}, proofs.lemmas.Option.{none-some, same_Some}, proofs.lemmas.List.Folds.list_any-append}
-use Rattle.key_lists.{specs.Keys.is_among, proofs.Among.{among-append, of_among}, proofs.Every.{every-append, every_unmapped, every_weaker, filter-map, filter_swap, any-map}, proofs.Booleans.{or_assoc, or_false, same_truth}}
+use Rattle.std.proofs.Common.{◌≡◌, ◌≢◌, is_some, refl, ap, ap₂, sym, ◌∙◌, subst, Bool, true, false, ◌&&◌, ◌||◌, ◌==◌, ℕ, zero, suc, ◌+◌, ◌<◌, arith, List, [], ◌∷◌, ◌++◌, map, get_or, length, set, take, Option, Some, None, ℤ, true≢false, inl, inr, ◌⊎◌, if◌then◌else◌}
+use Rattle.std.{specs.Prelude.{slice_get, not}, specs.Cmp.Rules.signed_items, specs.List.{AllByRecursion, AllZip, list_any}, specs.Option.option_map_or, proofs.lemmas.Bool.{cases_eq, eq-eqb, eqb-true, ne_eqb, or_cases, or_right, and_parts}, proofs.lemmas.List.{get_or-set_other, get_or-set_same}, proofs.lemmas.Option.{none-some, same_Some}, proofs.lemmas.List.Folds.list_any-append}
+use Rattle.key_lists.{specs.Keys.{is_among, without}, proofs.Among.{among-append, among-filter, of_among}, proofs.Every.{every_both, every-append, every_unmapped, every_weaker, filter-map, any-map}, proofs.Parts.{every_back, every_front}, proofs.Booleans.{or_assoc, or_false, same_truth}}
 use Rattle.row_groups.specs.Members.{IsNumberOf, IsNumberUnder, IsPart, Member, Names, Numbered, group_of, keys_of, member_under, name_at}
 use Rattle.shown_rows.proofs.Walks.{take_next}
-use Rattle.tick_model.{specs.declared.table.PlainRow.PlainRow, specs.declared.table.PlainTable.PlainTable, specs.declared.update.ShiftRange.ShiftRange, specs.Agg.key_cells, specs.Tables.{IsTable, keys, same_cells}, specs.Updates.{moved_row, removing, shifting}}
-use Rattle.agg_by.{specs.Kept.group_rows, specs.Steps.{kept_cells, key_at, starts}, specs.Touched.{AreNoted, is_named, starts_numbered, with_number}, proofs.Answering.{group_is, keys_group}, proofs.Bringing.members, proofs.FirstKeys.{kept_own, starts_when}, proofs.Made.no_rows}
+use Rattle.tick_model.{specs.declared.table.PlainRow.PlainRow, specs.declared.table.PlainTable.PlainTable, specs.declared.update.ShiftRange.ShiftRange, specs.Agg.key_cells, specs.Tables.{IsTable, keys, same_cells}, specs.Updates.{moved_row, shifting}}
+use Rattle.agg_by.{specs.Kept.group_rows, specs.Steps.{kept_cells, key_at, starts}, specs.Touched.{AreNoted, HaveNoted, is_named, starts_numbered, with_number}, proofs.Answering.group_is, proofs.Bringing.members, proofs.FirstKeys.{kept_own, starts_when}, proofs.GroupRows.first_at, proofs.Made.no_rows}
 
 -- marks of numbers
 pub marked_within : (marks : List Bool) (number : ℕ) → get_or marks number false ≡ true → number < length marks
@@ -37,7 +37,7 @@ unmarked numbers marks place number within here so_far other =
     either false false c = refl
 
 -- a number that is noted
-any_of : (p : ℕ → Bool) (number : ℕ) (numbers : List ℕ) → is_among number numbers ≡ true → p number ≡ true → list_any p numbers ≡ true
+pub any_of : (p : ℕ → Bool) (number : ℕ) (numbers : List ℕ) → is_among number numbers ≡ true → p number ≡ true → list_any p numbers ≡ true
 any_of p number [] own e = own
 any_of p number (other ∷ numbers) own e =
     elim (or_cases (other == number) (is_among number numbers) own) [
@@ -97,58 +97,68 @@ named_nothing names number =
 pub starts_none : (cells : List ℤ) (ms : List Member) (first : ℕ) → group_of cells ms ≡ [] → starts ms first cells ≡ false
 starts_none cells ms first none = ap (λ (group : List Member). option_map_or (λ (key : ℕ). key == first) (slice_get (keys_of group) 0) false) none
 
--- what is told of some keys, with one key more
-next_key : {X : Type 0} (g : List X → Bool) (f : ℕ → X) (some : List ℕ) (key : ℕ) (before : Bool) → ((xs ys : List X) → g (xs ++ ys) ≡ (g xs || g ys)) → ((before || g (map f some)) || g (f key ∷ [])) ≡ (before || g (map f (some ++ key ∷ [])))
-next_key g f some key before append =
-    sym (or_assoc before (g (map f some)) (g (f key ∷ []))) ∙ ap (λ b. before || b) (sym (ap g (map-append f some (key ∷ [])) ∙ append (map f some) (f key ∷ [])))
+-- cells of which all is told that is told of others name the same groups
+pub named_same : (xs ys : List (List ℤ)) → ((test : List ℤ → Bool) → list_any test xs ≡ list_any test ys) → (names : Names) (number : ℕ) → is_named xs names number ≡ is_named ys names number
+named_same xs ys same names number =
+    elim (name_at number names) as (λ named. option_map_or (λ own. list_any (same_cells own) xs) named false ≡ option_map_or (λ own. list_any (same_cells own) ys) named false) [
+      | None ↦ refl
+      | Some own ↦ same (same_cells own)
+    ]
 
--- besides the numbers of before they are those of the groups that have the cells of some keys, and so are their first rows
-pub record HaveNoted (f : ℕ → List ℤ) (rows : Numbered) (before numbers some : List ℕ) : Type 0 where
-  pub named : (number : ℕ) → is_among number numbers ≡ (is_among number before || is_named (map f some) rows.names number)
-  pub firsts : (first : ℕ) → list_any (starts_numbered rows first) numbers ≡ (list_any (starts_numbered rows first) before || list_any (starts rows.members first) (map f some))
-
-module _ (f : ℕ → List ℤ) (rows : Numbered) (before : List ℕ) where
-  pub noted_first : HaveNoted f rows before before []
+module _ (rows : Numbered) (before : List ℕ) where
+  pub noted_first : HaveNoted rows before before []
   noted_first = record {
     named = λ number. sym (ap (λ b. is_among number before || b) (named_nothing rows.names number) ∙ or_false (is_among number before));
     firsts = λ first. sym (or_false (list_any (starts_numbered rows first) before));
   }
 
   -- where there is no group
-  pub noted_nothing : ((number : ℕ) → name_at number rows.names ≡ None) → ((cells : List ℤ) → group_of cells rows.members ≡ []) → (some : List ℕ) → HaveNoted f rows before before some
+  pub noted_nothing : ((number : ℕ) → name_at number rows.names ≡ None) → ((cells : List ℤ) → group_of cells rows.members ≡ []) → (some : List (List ℤ)) → HaveNoted rows before before some
   noted_nothing unnamed empty some = record {
     named = λ number.
-        sym (ap (λ named. is_among number before || option_map_or (λ own. list_any (same_cells own) (map f some)) named false) (unnamed number) ∙ or_false (is_among number before));
+        sym (ap (λ named. is_among number before || option_map_or (λ own. list_any (same_cells own) some) named false) (unnamed number) ∙ or_false (is_among number before));
     firsts = λ first. sym (ap (λ b. list_any (starts_numbered rows first) before || b) (none_start first some) ∙ or_false (list_any (starts_numbered rows first) before));
   }
     where
-      none_start : (first : ℕ) (some : List ℕ) → list_any (starts rows.members first) (map f some) ≡ false
+      none_start : (first : ℕ) (some : List (List ℤ)) → list_any (starts rows.members first) some ≡ false
       none_start first [] = refl
-      none_start first (key ∷ some) = ap (λ b. b || list_any (starts rows.members first) (map f some)) (starts_none (f key) rows.members first (empty (f key))) ∙ none_start first some
+      none_start first (cells ∷ some) = ap (λ b. b || list_any (starts rows.members first) some) (starts_none cells rows.members first (empty cells)) ∙ none_start first some
 
-  module _ (numbers some : List ℕ) (key : ℕ) (noted : HaveNoted f rows before numbers some) where
-    -- one key more, whose cells a group has
-    pub noted_own : (number : ℕ) (more : List ℕ) → more ≡ with_number number numbers → IsNumberOf number (f key) rows.names → HaveNoted f rows before more (some ++ key ∷ [])
-    noted_own number more are is = record {
-      named = λ other.
-          ap (is_among other) are ∙ any_with (λ n. n == other) number numbers ∙ ap₂ (λ a b. a || b) (noted.named other) (sym (named_one number other (f key) rows.names is))
-          ∙ next_key (λ cells. is_named cells rows.names other) f some key (is_among other before) (λ xs ys. named-append xs ys rows.names other);
+  -- the cells of one row, which a group has
+  pub noted_own : (number : ℕ) (cells : List ℤ) → IsNumberOf number cells rows.names → HaveNoted rows before (with_number number before) (cells ∷ [])
+  noted_own number cells is = record {
+    named = λ other. any_with (λ n. n == other) number before ∙ ap (λ b. is_among other before || b) (sym (named_one number other cells rows.names is));
+    firsts = λ first.
+        any_with (starts_numbered rows first) number before
+        ∙ ap (λ b. list_any (starts_numbered rows first) before || b) (starts_own rows first number cells is.own ∙ sym (or_false (starts rows.members first cells)));
+  }
+
+  -- or none has
+  pub noted_alien : (cells : List ℤ) → ((number : ℕ) → name_at number rows.names ≢ Some cells) → group_of cells rows.members ≡ [] → HaveNoted rows before before (cells ∷ [])
+  noted_alien cells unnamed empty = record {
+    named = λ other. sym (ap (λ b. is_among other before || b) (named_none cells rows.names unnamed other) ∙ or_false (is_among other before));
+    firsts = λ first.
+        sym (ap (λ b. list_any (starts_numbered rows first) before || (b || false)) (starts_none cells rows.members first empty) ∙ or_false (list_any (starts_numbered rows first) before));
+  }
+
+  module _ (numbers : List ℕ) (cells : List (List ℤ)) (noted : HaveNoted rows before numbers cells) where
+    -- more cells
+    pub noted_next : (more : List ℕ) (others : List (List ℤ)) → HaveNoted rows numbers more others → HaveNoted rows before more (cells ++ others)
+    noted_next more others next = record {
+      named = λ number.
+          next.named number ∙ ap (λ b. b || is_named others rows.names number) (noted.named number)
+          ∙ sym (or_assoc (is_among number before) (is_named cells rows.names number) (is_named others rows.names number)) ∙ ap (λ b. is_among number before || b) (sym (named-append cells others rows.names number));
       firsts = λ first.
-          ap (list_any (starts_numbered rows first)) are ∙ any_with (starts_numbered rows first) number numbers
-          ∙ ap₂ (λ a b. a || b) (noted.firsts first) (starts_own rows first number (f key) is.own ∙ sym (or_false (starts rows.members first (f key))))
-          ∙ next_key (list_any (starts rows.members first)) f some key (list_any (starts_numbered rows first) before) (list_any-append (starts rows.members first));
+          next.firsts first ∙ ap (λ b. b || list_any (starts rows.members first) others) (noted.firsts first)
+          ∙ sym (or_assoc (list_any (starts_numbered rows first) before) (list_any (starts rows.members first) cells) (list_any (starts rows.members first) others))
+          ∙ ap (λ b. list_any (starts_numbered rows first) before || b) (sym (list_any-append (starts rows.members first) cells others));
     }
 
-    -- or none has
-    pub noted_alien : ((number : ℕ) → name_at number rows.names ≢ Some (f key)) → group_of (f key) rows.members ≡ [] → HaveNoted f rows before numbers (some ++ key ∷ [])
-    noted_alien unnamed empty = record {
-      named = λ other.
-          sym (or_false (is_among other numbers)) ∙ ap₂ (λ a b. a || b) (noted.named other) (sym (named_none (f key) rows.names unnamed other))
-          ∙ next_key (λ cells. is_named cells rows.names other) f some key (is_among other before) (λ xs ys. named-append xs ys rows.names other);
-      firsts = λ first.
-          sym (or_false (list_any (starts_numbered rows first) numbers))
-          ∙ ap₂ (λ a b. a || b) (noted.firsts first) (sym (ap (λ b. b || false) (starts_none (f key) rows.members first empty)))
-          ∙ next_key (list_any (starts rows.members first)) f some key (list_any (starts_numbered rows first) before) (list_any-append (starts rows.members first));
+    -- other cells of which the same is told
+    pub noted_same : (others : List (List ℤ)) → ((test : List ℤ → Bool) → list_any test cells ≡ list_any test others) → HaveNoted rows before numbers others
+    noted_same others same = record {
+      named = λ number. noted.named number ∙ ap (λ b. is_among number before || b) (named_same cells others same rows.names number);
+      firsts = λ first. noted.firsts first ∙ ap (λ b. list_any (starts_numbered rows first) before || b) (same (starts rows.members first));
     }
 
 -- what is told of the numbers of the groups of some rows is told of their key cells
@@ -161,18 +171,19 @@ told_of rows p g none append one (key ∷ keys) (number ∷ numbers) there are =
     let cells = kept_cells rows.members key in
     ap₂ (λ a b. a || b) (one number cells (are.0 cells (kept_own rows.members key there.0))) (told_of rows p g none append one keys numbers there.1 are.1) ∙ sym (append (cells ∷ []) (map (kept_cells rows.members) keys))
 
--- cells of which all is told that is told of others name the same groups
-pub named_same : (xs ys : List (List ℤ)) → ((test : List ℤ → Bool) → list_any test xs ≡ list_any test ys) → (names : Names) (number : ℕ) → is_named xs names number ≡ is_named ys names number
-named_same xs ys same names number =
-    elim (name_at number names) as (λ named. option_map_or (λ own. list_any (same_cells own) xs) named false ≡ option_map_or (λ own. list_any (same_cells own) ys) named false) [
-      | None ↦ refl
-      | Some own ↦ same (same_cells own)
-    ]
-
--- what is noted of some cells, then of others and then of more is noted of all
-pub together : {X : Type 0} (f : List ℕ → Bool) (g : List X → Bool) (start first second numbers : List ℕ) (xs ys zs all : List X) → f [] ≡ false → ((xs ys : List X) → g (xs ++ ys) ≡ (g xs || g ys)) → start ≡ [] → f first ≡ (f start || g xs) → f second ≡ (f first || g ys) → f numbers ≡ (f second || g zs) → g ((xs ++ ys) ++ zs) ≡ g all → f numbers ≡ g all
-together f g start first second numbers xs ys zs all none append nothing one two three same =
-    three ∙ ap (λ b. b || g zs) (two ∙ ap (λ b. b || g ys) (one ∙ ap (λ b. b || g xs) (ap f nothing ∙ none)) ∙ sym (append xs ys)) ∙ sym (append (xs ++ ys) zs) ∙ same
+-- the groups of rows that are kept, by their numbers
+pub noted_rows : (rows : Numbered) (before numbers keys some : List ℕ) → ((test : ℕ → Bool) → list_any test numbers ≡ (list_any test before || list_any test some)) → AllByRecursion (λ key. is_some (member_under key rows.members) ≡ true) keys
+    → AllZip (IsNumberUnder rows) keys some → HaveNoted rows before numbers (map (kept_cells rows.members) keys)
+noted_rows rows before numbers keys some all there are = record {
+  named = λ number.
+      all (λ other. other == number)
+      ∙ ap (λ b. is_among number before || b)
+      (told_of rows (λ other. other == number) (λ cells. is_named cells rows.names number) (named_nothing rows.names number) (λ xs ys. named-append xs ys rows.names number) (λ other cells is. sym (named_one other number cells rows.names is)) keys some there are);
+  firsts = λ first.
+      all (starts_numbered rows first)
+      ∙ ap (λ b. list_any (starts_numbered rows first) before || b)
+      (told_of rows (starts_numbered rows first) (list_any (starts rows.members first)) refl (list_any-append (starts rows.members first)) (λ number cells is. starts_own rows first number cells is.own ∙ sym (or_false (starts rows.members first cells))) keys some there are);
+}
 
 -- a step: from the part that stays, the groups of before and of now
 record IsFound {X : Type 0} (p : X → Bool) (xs : List X) : Type 0 where
@@ -188,6 +199,14 @@ any_found p (x ∷ xs) e =
       | inr later ↦
           let rest = any_found p xs later in
           record { one = rest.one; passes = rest.passes; there = λ q f. or_right (q x) (list_any q xs) (rest.there q f) }
+    ]
+
+found_with : {X : Type 0} (p : X → Bool) (P : X → Type 0) (Q : Type 0) (xs : List X) → list_any p xs ≡ true → AllByRecursion P xs → ((x : X) → p x ≡ true → P x → Q) → Q
+found_with p P Q [] e all found = absurd (true≢false (sym e))
+found_with p P Q (x ∷ xs) e all found =
+    elim (or_cases (p x) (list_any p xs) e) [
+      | inl own ↦ found x own all.0
+      | inr later ↦ found_with p P Q xs later all.1 found
     ]
 
 -- the number of the group with some key cells, if one is
@@ -211,18 +230,13 @@ find_name cells (Some own ∷ names) = by_cells (same_cells own cells) refl (fin
     by_cells true e rest = inl (0, ap Some ((signed_items own cells).0 e))
     by_cells false e rest = not_first cells (Some own) names (λ same. true≢false (sym ((signed_items own cells).1 (same_Some own cells same)) ∙ e)) rest
 
--- the first row of a group, and the rows behind it
-head_row : (first : ℕ) (some : List PlainRow) → option_map_or (λ k. k == first) (slice_get (keys some) 0) false ≡ true → (row : PlainRow) × ((row.key ≡ first) × ((rest : List PlainRow) × (some ≡ row ∷ rest)))
-head_row first [] e = absurd (true≢false (sym e))
-head_row first (row ∷ rest) e = (row, (eqb-true row.key first e, (rest, refl)))
-
 -- cells of one group among others
 alike : (ms : List Member) (first : ℕ) (cells : List ℤ) (touched : List (List ℤ)) → list_any (same_cells cells) touched ≡ true → starts ms first cells ≡ true → list_any (starts ms first) touched ≡ true
 alike ms first cells touched own led =
     let found = any_found (same_cells cells) touched own in
     found.there (starts ms first) (ap (starts ms first) (sym ((signed_items cells found.one).0 found.passes)) ∙ led)
 
-named_is : (cells : List (List ℤ)) (own : List ℤ) (names : Names) (number : ℕ) → name_at number names ≡ Some own → is_named cells names number ≡ list_any (same_cells own) cells
+pub named_is : (cells : List (List ℤ)) (own : List ℤ) (names : Names) (number : ℕ) → name_at number names ≡ Some own → is_named cells names number ≡ list_any (same_cells own) cells
 named_is cells own names number e = ap (λ named. option_map_or (λ own. list_any (same_cells own) cells) named false) e
 
 led_by : (rows : Numbered) (first number : ℕ) → starts_numbered rows first number ≡ true → (cells : List ℤ) × ((name_at number rows.names ≡ Some cells) × (starts rows.members first cells ≡ true))
@@ -236,38 +250,33 @@ module _ (by : List ℕ) (table : PlainTable) (t : IsTable table) (come : List �
   abbrev came : List (List ℤ)
   came = map (key_at by table.rows) come
 
-  -- the cells of a group whose first row comes
-  came_own : (first : ℕ) (cells : List ℤ) → is_among first come ≡ true → starts (members by None table.rows) first cells ≡ true → key_at by table.rows first ≡ cells
-  came_own first cells own led = (signed_items (key_at by table.rows first) cells).0 (and_parts _ _ (sym (starts_when by table t first cells) ∙ led)).0
+  abbrev stays : List (List ℤ)
+  stays = map (key_at by table.rows) (without come (keys table.rows))
 
-  -- a group whose first row stays has rows among those that stay
-  stays_led : (first : ℕ) (cells : List ℤ) → is_among first come ≡ false → starts (members by None table.rows) first cells ≡ true → group_of cells (members by None (removing come table.rows)) ≢ []
-  stays_led first cells stays led none =
-      let p = λ (row : PlainRow). same_cells cells (key_cells by row.cells) in
-      let q = λ (row : PlainRow). not (is_among row.key come) in
-      let head = head_row first (group_rows by cells table.rows) (ap (λ ks. option_map_or (λ k. k == first) (slice_get ks 0) false) (sym (keys_group by table.rows cells)) ∙ led) in
-      not_none head.0 (filter q head.1.1.0)
-      (sym (filter_swap p q table.rows ∙ ap (filter q) head.1.1.1 ∙ ap (λ b. cond (not b) (head.0 ∷ filter q head.1.1.0) (filter q head.1.1.0)) (ap (λ k. is_among k come) head.1.0 ∙ stays))
-      ∙ no_rows by (group_rows by cells (removing come table.rows)) (sym (group_is by (removing come table.rows) cells) ∙ none))
-    where
-      not_none : (row : PlainRow) (rest : List PlainRow) → row ∷ rest ≡ [] → ⊥
-      not_none row rest e = cc
+  -- the first row of a group
+  first_own : (first : ℕ) (cells : List ℤ) → starts (members by None table.rows) first cells ≡ true → (key_at by table.rows first ≡ cells) × (is_among first (keys table.rows) ≡ true)
+  first_own first cells led =
+      let parts = and_parts _ _ (sym (starts_when by table t first cells) ∙ led) in
+      ((signed_items (key_at by table.rows first) cells).0 parts.0, (and_parts _ _ (sym (first_at by table first t) ∙ parts.1)).1)
 
-  module _ (went : List (List ℤ)) (old mid new : Numbered) (before numbers : List ℕ) (part : IsPart mid old) (whole : IsPart mid new) (mids : mid.members ≡ members by None (removing come table.rows)) (news : new.members ≡ members by None table.rows)
-      (was : (number : ℕ) → is_among number before ≡ is_named (went ++ came) old.names number) (noted : AreNoted before came new.names numbers) where
+  module _ (went : List (List ℤ)) (old new : Numbered) (before numbers : List ℕ) (news : new.members ≡ members by None table.rows)
+      (was : (number : ℕ) → is_among number before ≡ is_named (went ++ came) old.names number) (noted : AreNoted old.names new.names before numbers stays came) where
+    lead : (first : ℕ) (cells : List ℤ) → starts new.members first cells ≡ true → (key_at by table.rows first ≡ cells) × (is_among first (keys table.rows) ≡ true)
+    lead first cells led = first_own first cells (ap (λ ms. starts ms first cells) (sym news) ∙ led)
+
     -- a group whose first row stays keeps its number
     kept_number : (first : ℕ) (cells : List ℤ) → is_among first come ≡ false → starts new.members first cells ≡ true → (number : ℕ) × ((name_at number old.names ≡ Some cells) × (name_at number new.names ≡ Some cells))
-    kept_number first cells stays led =
-        elim (find_name cells mid.names) [
-          | inl found ↦ (found.0, (part.kept found.0 cells found.1, whole.kept found.0 cells found.1))
-          | inr none ↦
-              absurd (stays_led first cells stays (ap (λ ms. starts ms first cells) (sym news) ∙ led) (ap (group_of cells) (sym mids) ∙ part.named cells none))
-        ]
+    kept_number first cells absent led =
+        let own = lead first cells led in
+        subst (λ cells. (number : ℕ) × ((name_at number old.names ≡ Some cells) × (name_at number new.names ≡ Some cells))) own.0
+        (of_among (λ key. (number : ℕ) × ((name_at number old.names ≡ Some (key_at by table.rows key)) × (name_at number new.names ≡ Some (key_at by table.rows key)))) first (without come (keys table.rows))
+        (every_unmapped (λ own. (number : ℕ) × ((name_at number old.names ≡ Some own) × (name_at number new.names ≡ Some own))) (key_at by table.rows) (without come (keys table.rows)) noted.same)
+        (among-filter (λ key. not (is_among key come)) first (keys table.rows) ∙ ap₂ (λ a b. not a && b) absent own.1))
 
     came_there : (first : ℕ) (cells : List ℤ) → is_among first come ≡ true → starts new.members first cells ≡ true → list_any (same_cells cells) came ≡ true
     came_there first cells own led =
         any-map (same_cells cells) (key_at by table.rows) come
-        ∙ any_of (λ key. same_cells cells (key_at by table.rows key)) first come own ((signed_items cells (key_at by table.rows first)).1 (sym (came_own first cells own (ap (λ ms. starts ms first cells) (sym news) ∙ led))))
+        ∙ any_of (λ key. same_cells cells (key_at by table.rows key)) first come own ((signed_items cells (key_at by table.rows first)).1 (sym (lead first cells led).0))
 
     in_both : (cells : List ℤ) → list_any (same_cells cells) came ≡ true → list_any (same_cells cells) (went ++ came) ≡ true
     in_both cells own = list_any-append (same_cells cells) went came ∙ or_right (list_any (same_cells cells) went) (list_any (same_cells cells) came) own
@@ -283,14 +292,14 @@ module _ (by : List ℕ) (table : PlainTable) (t : IsTable table) (come : List �
         by_case true e earlier = in_both cells (came_there first cells e led)
         by_case false e earlier =
             let same = kept_number first cells e led in
-            sym (named_is (went ++ came) cells old.names number (ap (λ n. name_at n old.names) (whole.alone number same.0 cells named same.1.1) ∙ same.1.0)) ∙ sym (was number) ∙ earlier
+            sym (named_is (went ++ came) cells old.names number (ap (λ n. name_at n old.names) (noted.alone number same.0 cells named same.1.1) ∙ same.1.0)) ∙ sym (was number) ∙ earlier
 
     noted_when : (first : ℕ) (cells : List ℤ) → list_any (same_cells cells) (went ++ came) ≡ true → starts new.members first cells ≡ true → (number : ℕ) × ((is_among number numbers ≡ true) × (name_at number new.names ≡ Some cells))
     noted_when first cells own led = by_case (is_among first come) refl
       where
         by_case : (b : Bool) → is_among first come ≡ b → (number : ℕ) × ((is_among number numbers ≡ true) × (name_at number new.names ≡ Some cells))
         by_case true e =
-            subst (λ cells. (number : ℕ) × ((is_among number numbers ≡ true) × (name_at number new.names ≡ Some cells))) (came_own first cells e (ap (λ ms. starts ms first cells) (sym news) ∙ led))
+            subst (λ cells. (number : ℕ) × ((is_among number numbers ≡ true) × (name_at number new.names ≡ Some cells))) (lead first cells led).0
             (of_among (λ key. (number : ℕ) × ((is_among number numbers ≡ true) × (name_at number new.names ≡ Some (key_at by table.rows key)))) first come
             (every_unmapped (λ own. (number : ℕ) × ((is_among number numbers ≡ true) × (name_at number new.names ≡ Some own))) (key_at by table.rows) come noted.found) e)
         by_case false e =
@@ -310,43 +319,101 @@ module _ (by : List ℕ) (table : PlainTable) (t : IsTable table) (come : List �
         let own = noted_when first found.one (found.there (same_cells found.one) ((signed_items found.one found.one).1 refl)) found.passes in
         any_of (starts_numbered new first) own.0 numbers own.1.0 (starts_own new first own.0 found.one own.1.1 ∙ found.passes))
 
+-- groups that have rows before and now keep their numbers
+pub alone_in : (part whole : Numbered) → IsPart part whole → (number other : ℕ) (cells : List ℤ) → name_at number part.names ≡ Some cells → name_at other part.names ≡ Some cells → number ≡ other
+alone_in part whole is number other cells e f = is.alone number other cells (is.kept number cells e) (is.kept other cells f)
+
+module _ (old between new : Numbered) (fewer : IsPart between old) (more : IsPart between new) (cells : List ℤ) (some : group_of cells between.members ≢ []) where
+  pub numbered_both : (number : ℕ) × ((name_at number old.names ≡ Some cells) × (name_at number new.names ≡ Some cells))
+  numbered_both =
+      elim (find_name cells between.names) [
+        | inl found ↦ (found.0, (fewer.kept found.0 cells found.1, more.kept found.0 cells found.1))
+        | inr none ↦ absurd (some (fewer.named cells none))
+      ]
+
+  pub number_carried : (number : ℕ) → IsNumberOf number cells old.names → IsNumberOf number cells new.names
+  number_carried number is =
+      let both = numbered_both in
+      let same : both.0 ≡ number = is.alone both.0 both.1.0 in
+      record { own = subst (λ n. name_at n new.names ≡ Some cells) same both.1.1; alone = λ other e. more.alone other number cells e (subst (λ n. name_at n new.names ≡ Some cells) same both.1.1) }
+
 -- no row yet
-pub noted_none : (before : List ℕ) (names : Names) → AreNoted before [] names before
-noted_none before names = record { kept = λ number own. own; own = λ number own. ap (λ b. b || is_named [] names number) own; found = tt }
+pub noted_none : (old new : Names) (before : List ℕ) (stays : List (List ℤ)) → AllByRecursion (λ own. (number : ℕ) × ((name_at number old ≡ Some own) × (name_at number new ≡ Some own))) stays
+    → ((number other : ℕ) (cells : List ℤ) → name_at number new ≡ Some cells → name_at other new ≡ Some cells → number ≡ other) → AreNoted old new before before stays []
+noted_none old new before still same alone = record { kept = λ number own. own; own = λ number own. ap (λ b. b || is_named [] new number) own; found = tt; same = same; alone = alone }
 
--- one row more
-named_more : (cells : List (List ℤ)) (own : List ℤ) (names more : Names) (number : ℕ) → ((cells : List ℤ) → name_at number names ≡ Some cells → name_at number more ≡ Some cells) → is_named cells names number ≡ true → is_named (cells ++ own ∷ []) more number ≡ true
-named_more cells own names more number keeps named = by_name (name_at number names) refl named
-  where
-    by_name : (name : Option (List ℤ)) → name_at number names ≡ name → option_map_or (λ own. list_any (same_cells own) cells) name false ≡ true → is_named (cells ++ own ∷ []) more number ≡ true
-    by_name None e h = absurd (true≢false (sym h))
-    by_name (Some other) e h = named_is (cells ++ own ∷ []) other more number (keeps other e) ∙ list_any-append (same_cells other) cells (own ∷ []) ∙ ap (λ b. b || list_any (same_cells other) (own ∷ [])) h
-
-pub noted_more : (before numbers : List ℕ) (cells : List (List ℤ)) (own : List ℤ) (part whole : Numbered) (number : ℕ) → IsPart part whole → IsNumberOf number own whole.names → AreNoted before cells part.names numbers → AreNoted before (cells ++ own ∷ []) whole.names (with_number number numbers)
-noted_more before numbers cells own part whole number keeps is noted = record {
-  kept = λ other here. any_with (λ n. n == other) number numbers ∙ ap (λ b. b || (number == other)) (noted.kept other here);
-  own = λ other here. by_case other (or_cases (is_among other numbers) (number == other) (sym (any_with (λ n. n == other) number numbers) ∙ here));
-  found = every-append Found cells (own ∷ [])
-      (every_weaker (λ own. (n : ℕ) × ((is_among n numbers ≡ true) × (name_at n part.names ≡ Some own))) Found cells (λ cells found. (found.0, (any_with (λ n. n == found.0) number numbers ∙ ap (λ b. b || (number == found.0)) found.1.0, keeps.kept found.0 cells found.1.1))) noted.found)
-      ((number, (any_with (λ n. n == number) number numbers ∙ or_right (is_among number numbers) (number == number) (eq-eqb number number refl), is.own)), tt);
+-- one row
+pub noted_one : (old new : Names) (before : List ℕ) (stays : List (List ℤ)) (own : List ℤ) (number : ℕ) → AllByRecursion (λ own. (number : ℕ) × ((name_at number old ≡ Some own) × (name_at number new ≡ Some own))) stays
+    → ((number other : ℕ) (cells : List ℤ) → name_at number new ≡ Some cells → name_at other new ≡ Some cells → number ≡ other) → IsNumberOf number own new → AreNoted old new before (with_number number before) stays (own ∷ [])
+noted_one old new before still own number same alone is = record {
+  kept = λ other here. any_with (λ n. n == other) number before ∙ ap (λ b. b || (number == other)) here;
+  own = λ other here. ap (λ b. is_among other before || b) (named_one number other own new is) ∙ sym (any_with (λ n. n == other) number before) ∙ here;
+  found = ((number, (any_with (λ n. n == number) number before ∙ or_right (is_among number before) (number == number) (eq-eqb number number refl), is.own)), tt);
+  same = same;
+  alone = alone;
 }
+
+-- more rows
+module _ (old mid new : Names) (before numbers more : List ℕ) (stays came others : List (List ℤ)) (noted : AreNoted old mid before numbers stays came) (next : AreNoted mid new numbers more (stays ++ came) others) where
+  abbrev Both : Names → Names → List ℤ → Type 0
+  Both old new own = (number : ℕ) × ((name_at number old ≡ Some own) × (name_at number new ≡ Some own))
+
+  parts : AllByRecursion (Both mid new) stays × AllByRecursion (Both mid new) came
+  parts = (every_front (Both mid new) stays came next.same, every_back (Both mid new) stays came next.same)
+
+  -- a group of rows that came keeps its number
+  still : (number : ℕ) (own : List ℤ) → Both mid new own → name_at number mid ≡ Some own → name_at number new ≡ Some own
+  still number own both named = ap (λ n. name_at n new) (noted.alone number both.0 own named both.1.0) ∙ both.1.1
+
+  still_named : (number : ℕ) → is_named came mid number ≡ true → is_named (came ++ others) new number ≡ true
+  still_named number named = by_name (name_at number mid) refl named
+    where
+      by_name : (name : Option (List ℤ)) → name_at number mid ≡ name → option_map_or (λ own. list_any (same_cells own) came) name false ≡ true → is_named (came ++ others) new number ≡ true
+      by_name None e h = absurd (true≢false (sym h))
+      by_name (Some own) e h =
+          named_is (came ++ others) own new number (still number own (found_with (same_cells own) (Both mid new) (Both mid new own) came h parts.1 (λ other same both. subst (Both mid new) (sym ((signed_items own other).0 same)) both)) e)
+          ∙ list_any-append (same_cells own) came others ∙ ap (λ b. b || list_any (same_cells own) others) h
+
+  pub noted_again : AreNoted old new before more stays (came ++ others)
+  noted_again = record {
+    kept = λ number here. next.kept number (noted.kept number here);
+    own = λ number here.
+        elim (or_cases (is_among number numbers) (is_named others new number) (next.own number here)) [
+          | inl earlier ↦
+              elim (or_cases (is_among number before) (is_named came mid number) (noted.own number earlier)) [
+                | inl first ↦ ap (λ b. b || is_named (came ++ others) new number) first
+                | inr named ↦ or_right (is_among number before) (is_named (came ++ others) new number) (still_named number named)
+              ]
+          | inr named ↦ or_right (is_among number before) (is_named (came ++ others) new number) (named-append came others new number ∙ or_right (is_named came new number) (is_named others new number) named)
+        ];
+    found = every-append (λ own. (number : ℕ) × ((is_among number more ≡ true) × (name_at number new ≡ Some own))) came others
+        (every_both (λ own. (number : ℕ) × ((is_among number numbers ≡ true) × (name_at number mid ≡ Some own))) (Both mid new) (λ own. (number : ℕ) × ((is_among number more ≡ true) × (name_at number new ≡ Some own))) came
+        (λ own found both. (found.0, (next.kept found.0 found.1.0, still found.0 own both found.1.1))) noted.found parts.1)
+        next.found;
+    same = every_both (Both old mid) (Both mid new) (Both old new) stays (λ own first both. (first.0, (first.1.0, still first.0 own both first.1.1))) noted.same parts.0;
+    alone = next.alone;
+  }
+
+-- the others keep their numbers where groups come to those that are there
+pub noted_part : (old : Names) (mid new : Numbered) (before numbers more : List ℕ) (stays came others : List (List ℤ)) → IsPart mid new → AreNoted old mid.names before numbers stays came → AreNoted mid.names new.names numbers more [] others → AreNoted old new.names before more stays (came ++ others)
+noted_part old mid new before numbers more stays came others part noted next =
+    noted_again old mid.names new.names before numbers more stays came others noted
+    (record {
+      kept = next.kept;
+      own = next.own;
+      found = next.found;
+      same = every-append (Both mid.names new.names) stays came
+          (every_weaker (Both old mid.names) (Both mid.names new.names) stays (λ own both. (both.0, (both.1.1, part.kept both.0 own both.1.1))) noted.same)
+          (every_weaker (λ own. (number : ℕ) × ((is_among number numbers ≡ true) × (name_at number mid.names ≡ Some own))) (Both mid.names new.names) came (λ own found. (found.0, (found.1.1, part.kept found.0 own found.1.1))) noted.found);
+      alone = next.alone;
+    })
   where
-    Found : List ℤ → Type 0
-    Found own = (n : ℕ) × ((is_among n (with_number number numbers) ≡ true) × (name_at n whole.names ≡ Some own))
+    Both : Names → Names → List ℤ → Type 0
+    Both old new own = (number : ℕ) × ((name_at number old ≡ Some own) × (name_at number new ≡ Some own))
 
-    later : (other : ℕ) → is_named (cells ++ own ∷ []) whole.names other ≡ true → (is_among other before || is_named (cells ++ own ∷ []) whole.names other) ≡ true
-    later other h = or_right (is_among other before) (is_named (cells ++ own ∷ []) whole.names other) h
-
-    by_case : (other : ℕ) → (is_among other numbers ≡ true) ⊎ ((number == other) ≡ true) → (is_among other before || is_named (cells ++ own ∷ []) whole.names other) ≡ true
-    by_case other (inl here) =
-        elim (or_cases (is_among other before) (is_named cells part.names other) (noted.own other here)) [
-          | inl earlier ↦ ap (λ b. b || is_named (cells ++ own ∷ []) whole.names other) earlier
-          | inr named ↦ later other (named_more cells own part.names whole.names other (keeps.kept other) named)
-        ]
-    by_case other (inr same) =
-        later other
-        (named_is (cells ++ own ∷ []) own whole.names other (ap (λ n. name_at n whole.names) (sym (eqb-true number other same)) ∙ is.own)
-        ∙ list_any-append (same_cells own) cells (own ∷ []) ∙ or_right (list_any (same_cells own) cells) (list_any (same_cells own) (own ∷ [])) (ap (λ b. b || false) ((signed_items own own).1 refl)))
+-- groups that keep their numbers twice
+pub part_again : (first second third : Numbered) → IsPart first second → IsPart second third → IsPart first third
+part_again first second third is more = record { kept = λ number cells e. more.kept number cells (is.kept number cells e); named = is.named; alone = more.alone }
 
 -- a group without rows has none wherever they move
 pub moved_none : (by : List ℕ) (shifts : List ShiftRange) (rows : List PlainRow) (cells : List ℤ) → group_of cells (members by None rows) ≡ [] → group_of cells (members by None (shifting shifts rows)) ≡ []
@@ -354,18 +421,6 @@ moved_none by shifts rows cells none =
     group_is by (shifting shifts rows) cells
     ∙ ap (members by None) (filter-map (λ row. same_cells cells (key_cells by row.cells)) (moved_row shifts) rows ∙ ap (shifting shifts) (no_rows by (group_rows by cells rows) (sym (group_is by rows cells) ∙ none)))
 
--- groups that keep their numbers twice
-pub part_again : (first second third : Numbered) → IsPart first second → IsPart second third → IsPart first third
-part_again first second third is more = record {
-  kept = λ number cells e. more.kept number cells (is.kept number cells e);
-  named = is.named;
-  alone = more.alone;
-}
-
 -- a part of what has no group twice has none either
 pub part_own : (part whole : Numbered) → IsPart part whole → IsPart part part
-part_own part whole is = record {
-  kept = λ number cells e. e;
-  named = is.named;
-  alone = λ number other cells e f. is.alone number other cells (is.kept number cells e) (is.kept other cells f);
-}
+part_own part whole is = record { kept = λ number cells e. e; named = is.named; alone = alone_in part whole is }

@@ -1,15 +1,15 @@
 -- A whole step: what is kept before it, and what it reads.
-use Rattle.std.proofs.Common.{◌≡◌, refl, ap, ap₂, sym, ◌∙◌, subst, Bool, true, false, not, cond, ℕ, suc, ◌+◌, ◌*◌, ◌^◌, ◌≤◌, arith, List, [], ◌∷◌, map, filter, length, None, if◌then◌else◌}
-use Rattle.std.{specs.List.{AllByRecursion, AllZip, list_any}, proofs.lemmas.Bool.and_parts, proofs.lemmas.List.Elements.length_all_zip, proofs.lemmas.List.{length-append, length-map}, proofs.Math.Nat.mul-le-mul_left}
+use Rattle.std.proofs.Common.{◌≡◌, refl, ap, ap₂, sym, ◌∙◌, subst, Bool, true, false, not, cond, ℕ, suc, ◌+◌, ◌*◌, ◌^◌, ◌≤◌, arith, List, [], ◌∷◌, map, filter, length, None}
+use Rattle.std.{specs.List.{AllByRecursion, list_any}, proofs.lemmas.Bool.and_parts, proofs.lemmas.List.{length-append, length-map}, proofs.Math.Nat.mul-le-mul_left}
 use Rattle.key_lists.{specs.Keys.{is_among, IsRising, without}, proofs.Among.each_among, proofs.Every.{every_unmapped, every_weaker, every-filter, every-map, filter_passes}, proofs.Rising.{as_filter, rising-filter, rising_some}}
-use Rattle.row_groups.specs.Members.{Grouped, IsNumberUnder, Numbered, groups_of}
+use Rattle.row_groups.specs.Members.{Grouped, Numbered, groups_of}
 use Rattle.row_set.proofs.United.{length-united}
 use Rattle.shown_rows.proofs.Restricted.{kept, modified_even}
 use Rattle.table_update.specs.Kept.{old_modified}
 use Rattle.tick_model.{specs.declared.plan.Agg.Agg, specs.declared.table.PlainRow.PlainRow, specs.declared.table.PlainTable.PlainTable, specs.declared.update.KeyPair.KeyPair, specs.Rules.update_fault, specs.Tables.{keys, IsTable}, specs.Updates.{between, kept_pair, new_keys}}
 use Rattle.tick_laws.specs.Checked.{keys_after}
 use Rattle.tick_table.{proofs.Between.{between_lawful, keys_after_between}, specs.Exact.{IsExact, counted}, specs.Ticking.Ticking}
-use Rattle.agg_by.{specs.Aggregator.IsColumn, specs.declared.kept.AggIndex.AggIndex, specs.declared.running.Accumulator.Accumulator, specs.declared.running.Accumulator.TheVariants.{Count, Sum, Min, Max, First, Last}, specs.Answers.IsWithin, specs.Kept.{AnswerAll, Are, IsMade, Keeps, agg_of, indexed}, specs.Steps.{changing_before, come, coming, first_keys, gone, is_touched, keeps_groups, key_at, leaving, starts, staying, stays, touched_cells, touched_firsts}, proofs.FirstKeys.{few_firsts, first_keys_rise, firsts_are}, proofs.GroupParts.{is_tick, staying_is, tick, touched}, proofs.GroupRows.keys-agg}
+use Rattle.agg_by.{specs.Aggregator.IsColumn, specs.declared.kept.AggIndex.AggIndex, specs.declared.running.Accumulator.Accumulator, specs.declared.running.Accumulator.TheVariants.{Count, Sum, Min, Max, First, Last}, specs.Answers.IsWithin, specs.Kept.{AnswerAll, Are, IsMade, Keeps, agg_of, indexed}, specs.Steps.{come, first_keys, gone, is_touched, key_at, starts, staying, stays, touched_cells, touched_firsts}, proofs.FirstKeys.{few_firsts, first_keys_rise, firsts_are}, proofs.GroupParts.{is_tick, staying_is, tick, touched}, proofs.GroupRows.keys-agg}
 
 within_one : (width : ℕ) (running : Accumulator) → IsColumn width (agg_of running) → IsWithin width running
 within_one width Count h = tt
@@ -39,25 +39,9 @@ touched_count : (t : Ticking) → IsExact t → length (gone t) + length (come t
 touched_count t e =
     omega (arith, length-united t.update.removed (old_modified (keys t.old.rows) t.update), length-united t.update.added t.update.modified, modified_even t e)
 
--- the rows that are moved or changed are counted
-pub moved_count : (t : Ticking) → IsExact t → (b : Bool) → length (if b then t.update.removed else gone t) + 2 * length (if b then old_modified (keys t.old.rows) t.update else []) + length (if b then t.update.added else come t) ≤ counted t.update
-moved_count t e true = omega (arith, modified_even t e)
-moved_count t e false = omega (arith, touched_count t e)
-
-pub came_few : (by : List ℕ) (t : Ticking) → IsExact t → (came : List ℕ) → came ≡ coming by t → length came ≤ counted t.update
-came_few by t e came is = omega (arith, ap length is, moved_count t e (keeps_groups by t))
-
 -- the reads of noting, of bringing on, and of the operator's step
 pub noted_reads : (width aggs come firsts all first second third : ℕ) → second ≤ first + width * come → third ≤ second + aggs * firsts → come ≤ all → firsts ≤ all → third ≤ first + (width + aggs) * all
 noted_reads width aggs come firsts all first second third h k few fewer = omega (arith, h, k, mul-le-mul_left width few, mul-le-mul_left aggs fewer)
-
-pub moving_reads : (by : List ℕ) (t : Ticking) → IsExact t → (gone come : List ℕ) → gone ≡ leaving by t → come ≡ coming by t → (rows : Numbered) (numbers : List ℕ) → AllZip (IsNumberUnder rows) (changing_before by t) numbers
-    → (first second third last : ℕ) → second ≤ first + t.old.width * length gone → third ≤ second + 2 * t.new.width * length numbers → last ≤ third + t.new.width * length come → last ≤ first + t.new.width * counted t.update
-moving_reads by t e gone come g c rows numbers all first second third last h k l =
-    omega (arith, h, k, l, ap (λ width. width * length gone) e.tick.one_width, mul-le-mul_left t.new.width few)
-  where
-    few : length gone + 2 * length numbers + length come ≤ counted t.update
-    few = omega (arith, length_all_zip (IsNumberUnder rows) (changing_before by t) numbers all, ap length g, ap length c, moved_count t e (keeps_groups by t))
 
 pub wider_reads : (width by aggs first last all out : ℕ) → last ≤ first + 3 * (width + aggs) * all → last ≤ first + 4 * (width + (by + aggs)) * (all + out)
 wider_reads width by aggs first last all out h = omega (arith, h)

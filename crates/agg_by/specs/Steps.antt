@@ -6,8 +6,7 @@
 --     first_keys by rows      the keys of the first rows of the groups
 --     touched_firsts by input rows      those of the touched groups
 --     keeps_groups by input      whether rows that stay differ in none of these columns
---     leaving by input, coming by input      the old keys of the rows that leave their groups, and the new keys of those that come to one: modified rows are not among them where all stay in theirs
---     changing_before by input, changing by input      the old keys of the modified rows that stay in their groups, and their new keys
+--     come_cells by input, staying_cells by input      the key cells of now of the rows that come or are modified, and of the others
 --     kept_cells members key      the key cells that are kept under a key
 --     stays by input pair      whether both rows of a pair are first rows of one touched group
 use Rattle.std.{specs.Prelude.{ℕ, ◌==◌, ◌&&◌, Bool, false, not, List, [], ◌++◌, filter, map, option_map, slice_get, unwrap_or, ℤ, if◌then◌else◌}, specs.List.list_any, specs.Option.option_map_or}
@@ -31,24 +30,19 @@ staying_rows input = shifting input.update.shifted (removing (gone input) input.
 abbrev pub keeps_groups : List ℕ → Ticking → Bool
 keeps_groups by input = not (list_any (λ column. is_among column input.update.columns) by)
 
-abbrev pub leaving : List ℕ → Ticking → List ℕ
-leaving by input = if keeps_groups by input then input.update.removed else gone input
-
-abbrev pub coming : List ℕ → Ticking → List ℕ
-coming by input = if keeps_groups by input then input.update.added else come input
-
-abbrev pub changing_before : List ℕ → Ticking → List ℕ
-changing_before by input = if keeps_groups by input then old_modified (keys input.old.rows) input.update else []
-
-abbrev pub changing : List ℕ → Ticking → List ℕ
-changing by input = if keeps_groups by input then input.update.modified else []
-
 -- the key cells of the row under a key
 abbrev pub key_at : List ℕ → List PlainRow → ℕ → List ℤ
 key_at by rows key = key_cells by (cells_at key rows)
 
 abbrev pub touched_cells : List ℕ → Ticking → List (List ℤ)
 touched_cells by input = map (key_at by input.old.rows) (gone input) ++ map (key_at by input.new.rows) (come input)
+
+-- those of now, in the order in which the rows come
+abbrev pub come_cells : List ℕ → Ticking → List (List ℤ)
+come_cells by input = map (key_at by input.new.rows) (input.update.modified ++ input.update.added)
+
+abbrev pub staying_cells : List ℕ → Ticking → List (List ℤ)
+staying_cells by input = map (key_at by input.new.rows) (without (input.update.modified ++ input.update.added) (keys input.new.rows))
 
 abbrev pub is_touched : List ℕ → Ticking → List ℤ → Bool
 is_touched by input cells = list_any (same_cells cells) (touched_cells by input)

@@ -1,16 +1,15 @@
 //! The operator without the keys of its rows: what it keeps, and its step.
 
-ghost use Rattle.std.specs.Prelude.{◌≡◌, ℕ, ◌+◌, ◌*◌, ◌<◌, ◌≤◌, None, length, IfOk, OnErr, OnOk};
-ghost use Rattle.std.specs.List.{AllByRecursion, AllZip};
+ghost use Rattle.std.specs.Prelude.{◌≡◌, ℕ, ◌+◌, ◌*◌, ◌<◌, ◌≤◌, [], None, length, IfOk, OnErr, OnOk};
+ghost use Rattle.std.specs.List.{AllByRecursion};
 ghost use Rattle.agg_by.specs.Aggregator.{IsAggregator, IsColumn, KeepsRows, grouped};
 ghost use Rattle.agg_by.specs.Answers.{IsWithin};
 ghost use Rattle.agg_by.specs.Kept.{Are, IsMade, Keeps, indexed};
 ghost use Rattle.agg_by.specs.Notes.{IsNoted};
 ghost use Rattle.agg_by.specs.Rows.{AreReady};
-ghost use Rattle.agg_by.specs.Steps.{changing_before, coming, first_keys, leaving, touched_cells, touched_firsts};
-ghost use Rattle.agg_by.specs.Touched.{is_named};
-ghost use Rattle.key_lists.specs.Keys.{is_among};
-ghost use Rattle.row_groups.specs.Members.{IsNumberUnder, groups_of};
+ghost use Rattle.agg_by.specs.Steps.{first_keys, touched_cells, touched_firsts};
+ghost use Rattle.agg_by.specs.Touched.{AreLeaving, HaveNoted};
+ghost use Rattle.row_groups.specs.Members.{groups_of};
 ghost use Rattle.tick_model.specs.Agg.{agg_table};
 ghost use Rattle.tick_model.specs.Changes.{change_of};
 ghost use Rattle.tick_table.specs.Exact.{IsExact, counted, tick_of};
@@ -18,7 +17,7 @@ ghost use Rattle.tick_table.specs.Ticking.{no_rows};
 
 use crate::firsts::{LedGroup, find_led};
 use crate::kept::AggIndex;
-use crate::moving::Moving;
+use crate::moving::Leaving;
 use crate::notes::PriorRows;
 use crate::rows::GroupRows;
 use crate::staying::staying_firsts;
@@ -171,11 +170,11 @@ fn grouped_step<L: Ledger>(
     ensures reads { reads.new ≤ reads.old + 3 * (input.now.new.width + length kept.old.aggs) * counted input.now.update }
 {
     kept.begin(alloc)?;
-    let moving = Moving::of(alloc, kept, input)?;
+    let leaving = Leaving::of(alloc, kept, input)?;
     let notes = noted_groups(
-        alloc, kept, input, &moving, touched, led, key_cells, noted, reads,
+        alloc, kept, input, &leaving, touched, led, key_cells, noted, reads,
     )?;
-    kept.bring_on(input, &moving, touched, key_cells, reads)?;
+    kept.bring_on(input, &leaving, touched, key_cells, reads)?;
     let firsts = find_led(alloc, &kept.rows, touched.numbers(), led)?;
     let rows = GroupRows {
         input,
@@ -192,7 +191,7 @@ fn noted_groups<L: Ledger>(
     alloc: Global,
     kept: &AggIndex,
     input: &TickTable,
-    moving: &Moving,
+    leaving: &Leaving,
     touched: &mut TouchedGroups,
     led: &mut Vec<LedGroup>,
     key_cells: &mut Vec<i64>,
@@ -203,16 +202,13 @@ fn noted_groups<L: Ledger>(
     requires few { length kept.now.by + length kept.now.aggs ≤ 32 }
     requires keeps { Keeps kept.now input.now.old.rows }
     requires within { AllByRecursion (IsWithin input.now.old.width) kept.now.running.items }
-    requires gone { moving.now.gone ≡ leaving kept.now.by input.now }
-    requires numbers { AllZip (IsNumberUnder kept.now.rows) moving.now.gone moving.now.numbers.items }
-    requires changing { AllZip (IsNumberUnder kept.now.rows) (changing_before kept.now.by input.now) moving.now.changing.items }
-    requires come { moving.now.come ≡ coming kept.now.by input.now }
-    ensures touched { OnOk result ((number : ℕ) → is_among number touched.new ≡ is_named (touched_cells kept.now.by input.now) kept.now.rows.names number) }
+    requires leaving { AreLeaving leaving.now kept.now.by kept.now.rows input.now }
+    ensures touched { OnOk result (HaveNoted kept.now.rows [] touched.new (touched_cells kept.now.by input.now)) }
     ensures noted { IfOk result (λ notes. IsNoted notes (agg_table kept.now.by kept.now.aggs input.now.old)) }
     ensures keys { IfOk result (λ notes. notes.keys ≡ touched_firsts kept.now.by input.now input.now.old.rows) }
     ensures reads { reads.new ≤ reads.old + (input.now.new.width + length kept.now.aggs) * counted input.now.update }
 {
-    touched.note_before(kept, input, moving, key_cells, reads)?;
+    touched.note_before(kept, input, leaving, key_cells, reads)?;
     let before = find_led(alloc, &kept.rows, touched.numbers(), led)?;
     PriorRows::take(kept, input, before, led.as_slice(), noted, reads)
 }

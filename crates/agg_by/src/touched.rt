@@ -1,22 +1,20 @@
 //! The groups that a step touches, by their numbers.
 
-ghost use Rattle.std.specs.Prelude.{◌≡◌, Bool, ℕ, ◌+◌, ◌*◌, ◌≤◌, ◌||◌, [], None, IsTrue, OnOk, length, map};
-ghost use Rattle.std.specs.List.{AllByRecursion, AllZip, list_any};
+ghost use Rattle.std.specs.Prelude.{◌≡◌, Bool, ℕ, ◌+◌, ◌*◌, ◌≤◌, ◌||◌, ◌∷◌, [], None, OnOk, length};
+ghost use Rattle.std.specs.List.{list_any};
 ghost use Rattle.agg_by.specs.Kept.{indexed};
-ghost use Rattle.agg_by.specs.Steps.{changing_before, coming, key_at, leaving, starts, touched_cells};
-ghost use Rattle.agg_by.specs.Touched.{is_named, starts_numbered, with_number};
-ghost use Rattle.key_lists.specs.Keys.{is_among};
-ghost use Rattle.row_groups.specs.Members.{IsNumberUnder, groups_of};
-ghost use Rattle.tick_model.specs.Tables.{keys as keys_of};
+ghost use Rattle.agg_by.specs.Steps.{touched_cells};
+ghost use Rattle.agg_by.specs.Touched.{AreLeaving, HaveNoted, with_number};
+ghost use Rattle.row_groups.specs.Members.{groups_of};
+ghost use Rattle.tick_model.specs.Agg.{key_cells as cells_by};
 ghost use Rattle.tick_table.specs.Exact.{IsExact};
 
 use crate::kept::AggIndex;
-use crate::moving::Moving;
-use row_set::RowSet;
+use crate::moving::Leaving;
 use std::alloc::{AllocError, Global};
 use std::marker::Model;
 use std::sync::ledger::Ledger;
-use tick_table::{RowReader, Steps, TickTable, Version};
+use tick_table::{Steps, TickTable};
 
 /// The numbers of groups, each once. A contract sees the list of them.
 #[derive(Drop)]
@@ -24,7 +22,8 @@ pub(crate) struct TouchedGroups {
     numbers: Vec<usize>,
     /// Which numbers are in the list.
     marks: Vec<bool>,
-    /// For each row that comes, the number of the group that had its key cells before the step, or that of no group.
+    /// For each added row, and then for each modified one where key cells differ, the number of the group that had its key cells
+    /// before the step, or that of no group.
     near: Vec<usize>,
 }
 
@@ -69,7 +68,7 @@ impl TouchedGroups {
         self.near.clear();
     }
 
-    /// The number that the group of a row that comes is likely to have, by the place of the row among those that come.
+    /// The number that the group of a row is likely to have, by the place of the row among the added ones and then the modified ones.
     pub fn near(&self, place: usize) -> usize {
         self.near.get(place).copied().unwrap_or(usize::MAX)
     }
@@ -93,24 +92,32 @@ impl TouchedGroups {
         &mut self,
         kept: &AggIndex,
         input: &TickTable,
-        moving: &Moving,
+        leaving: &Leaving,
         key_cells: &mut Vec<i64>,
         reads: &mut Steps<L>,
     ) -> Result<(), AllocError>
         requires exact { IsExact input.now }
         requires rows { groups_of kept.now.rows ≡ indexed kept.now.by None input.now.old.rows }
-        requires gone { moving.now.gone ≡ leaving kept.now.by input.now }
-        requires numbers { AllZip (IsNumberUnder kept.now.rows) moving.now.gone moving.now.numbers.items }
-        requires changing { AllZip (IsNumberUnder kept.now.rows) (changing_before kept.now.by input.now) moving.now.changing.items }
-        requires come { moving.now.come ≡ coming kept.now.by input.now }
-        ensures named { OnOk result ((number : ℕ) → is_among number self.new ≡ is_named (touched_cells kept.now.by input.now) kept.now.rows.names number) }
-        ensures firsts { OnOk result ((first : ℕ) → list_any (starts_numbered kept.now.rows first) self.new ≡ list_any (starts kept.now.rows.members first) (touched_cells kept.now.by input.now)) }
-        ensures reads { reads.new ≤ reads.old + input.now.new.width * length moving.now.come }
+        requires leaving { AreLeaving leaving.now kept.now.by kept.now.rows input.now }
+        ensures noted { OnOk result (HaveNoted kept.now.rows [] self.new (touched_cells kept.now.by input.now)) }
+        ensures reads { reads.new ≤ reads.old + input.now.new.width * (length input.now.update.added + length input.now.update.modified) }
     {
         self.clear();
-        self.note_all(moving.numbers.as_slice())?;
-        self.note_all(moving.changing.as_slice())?;
-        self.note_coming(kept, input, &moving.come, key_cells, reads)
+        self.note_all(leaving.removed.as_slice())?;
+        self.note_all(leaving.modified.as_slice())?;
+        if kept.rows.is_empty() {
+            return Ok(());
+        }
+        for place in 0..input.update().added().len() {
+            self.note_coming(kept, input.added_row(place, reads), key_cells)?;
+        }
+        if leaving.stay {
+            return Ok(());
+        }
+        for other in 0..input.update().modified().len() {
+            self.note_coming(kept, input.modified_row(other, reads), key_cells)?;
+        }
+        Ok(())
     }
 
     /// Notes these groups.
@@ -123,35 +130,21 @@ impl TouchedGroups {
         Ok(())
     }
 
-    /// Notes the groups, as they are kept, that have the key cells of these rows of now. It reads each of the rows, if there is
-    /// any group.
-    fn note_coming<L: Ledger>(
+    /// Notes the group, as it is kept, that has the key cells of a row, if there is one.
+    fn note_coming(
         &mut self,
         kept: &AggIndex,
-        input: &TickTable,
-        keys: &RowSet,
+        row: &[i64],
         key_cells: &mut Vec<i64>,
-        reads: &mut Steps<L>,
     ) -> Result<(), AllocError>
-        requires { AllByRecursion (λ key. IsTrue (is_among key (keys_of input.now.new.rows))) keys.now }
-        ensures named { OnOk result ((number : ℕ) → is_among number self.new
-            ≡ (is_among number self.old || is_named (map (key_at kept.now.by input.now.new.rows) keys.now) kept.now.rows.names number)) }
-        ensures firsts { OnOk result ((first : ℕ) → list_any (starts_numbered kept.now.rows first) self.new
-            ≡ (list_any (starts_numbered kept.now.rows first) self.old || list_any (starts kept.now.rows.members first) (map (key_at kept.now.by input.now.new.rows) keys.now))) }
-        ensures reads { reads.new ≤ reads.old + input.now.new.width * length keys.now }
+        ensures { OnOk result (HaveNoted kept.now.rows self.old self.new (cells_by kept.now.by row.now ∷ [])) }
     {
-        if kept.rows.is_empty() {
-            return Ok(());
+        kept.read_key_cells(row, key_cells)?;
+        let found = kept.rows.find(key_cells.as_slice());
+        self.near.push(found.unwrap_or(usize::MAX))?;
+        match found {
+            Some(number) => self.note(number),
+            None => Ok(()),
         }
-        let mut rows = RowReader::of(input, Version::Now);
-        for key in keys {
-            kept.read_key_cells(rows.row(key, reads), key_cells)?;
-            let found = kept.rows.find(key_cells.as_slice());
-            self.near.push(found.unwrap_or(usize::MAX))?;
-            if let Some(number) = found {
-                self.note(number)?;
-            }
-        }
-        Ok(())
     }
 }

@@ -25,12 +25,6 @@ pub bring_on-requires-clause-keeps : goal.bring_on-requires-clause-keeps
 bring_on-requires-clause-keeps g c =
     begun_keeps c.args.kept.now c.begin.new.self c.args.input.now.old.rows c.in_ok-begin.ensures.made c.in_ok-begin.ensures.rows c.in_ok-begin.ensures.running c.requires.rows c.requires.running
 
-pub bring_on-requires-clause-numbers : goal.bring_on-requires-clause-numbers
-bring_on-requires-clause-numbers g c = c.in_ok-moving.ensures.numbers
-
-pub bring_on-requires-clause-changing : goal.bring_on-requires-clause-changing
-bring_on-requires-clause-changing g c = c.in_ok-moving.ensures.changing
-
 pub bring_on-requires-clause-touched : goal.bring_on-requires-clause-touched
 bring_on-requires-clause-touched g c = c.in_ok-notes.ensures.touched
 

@@ -1,16 +1,10 @@
-use Rattle.std.proofs.Common.{◌≡◌, ap, sym, ◌∙◌, subst, true, arith, length}
+use Rattle.std.proofs.Common.{◌≡◌, ap, sym, ◌∙◌, subst, true, arith, ◌+◌, length}
 use Rattle.std.{specs.List.{AllByRecursion, list_any}, proofs.lemmas.Result.IfOk-weaker}
 use Rattle.key_lists.specs.Keys.{is_among}
 use Rattle.row_groups.specs.Members.{groups_of}
-use Rattle.agg_by.{specs.declared.notes.PriorRows.PriorRows, specs.Steps.{first_keys, touched_firsts}, specs.Touched.{AreLed, starts_numbered}, proofs.Whole.{came_few, firsts_few, found_firsts, noted_reads, touched_there}}
+use Rattle.agg_by.{specs.declared.notes.PriorRows.PriorRows, specs.Steps.{first_keys, touched_firsts}, specs.Touched.{AreLed, starts_numbered}, proofs.Whole.{firsts_few, found_firsts, noted_reads, touched_there}}
 use Rattle.tick_table.specs.Exact.{counted}
 use Rattle.agg_by.proofs.aggregation.noted_groups.Goals as goal
-
-pub note_before-requires-clause-numbers : goal.note_before-requires-clause-numbers
-note_before-requires-clause-numbers g c = c.requires.numbers
-
-pub note_before-requires-clause-changing : goal.note_before-requires-clause-changing
-note_before-requires-clause-changing g c = c.requires.changing
 
 pub take-requires-clause-firsts : goal.take-requires-clause-firsts
 take-requires-clause-firsts g c =
@@ -18,14 +12,14 @@ take-requires-clause-firsts g c =
     let by = c.args.kept.now.by in
     let rows = c.args.kept.now.rows in
     let are : c.in_ok-before.before ≡ touched_firsts by t t.old.rows =
-    found_firsts by t t.old c.requires.exact.tick.old_table (groups_of rows) c.in_ok-before.before c.requires.keeps.rows c.in_ok-before.ensures.rising (λ first. c.in_ok-before.ensures.firsts first ∙ ap (list_any (starts_numbered rows first)) c.numbers.ensures ∙ c.in_ok-note_before.ensures.firsts first) in
+    found_firsts by t t.old c.requires.exact.tick.old_table (groups_of rows) c.in_ok-before.before c.requires.keeps.rows c.in_ok-before.ensures.rising (λ first. c.in_ok-before.ensures.firsts first ∙ ap (list_any (starts_numbered rows first)) c.numbers.ensures ∙ c.in_ok-note_before.ensures.noted.firsts first) in
     subst (AllByRecursion (λ key. is_among key (first_keys by t.old.rows) ≡ true)) (sym are) (touched_there by t t.old.rows)
 
 pub take-requires-clause-led : goal.take-requires-clause-led
 take-requires-clause-led g c = subst (AreLed c.args.kept.now.rows) (sym c.as_slice.ensures.value) c.in_ok-before.ensures.led
 
 pub returns-clause-touched : goal.returns-clause-touched
-returns-clause-touched g c = IfOk-weaker c.take.result _ _ (λ (notes : PriorRows) keys. c.in_ok-note_before.ensures.named) c.take.ensures.keys
+returns-clause-touched g c = IfOk-weaker c.take.result _ _ (λ (notes : PriorRows) keys. c.in_ok-note_before.ensures.noted) c.take.ensures.keys
 
 pub returns-clause-keys : goal.returns-clause-keys
 returns-clause-keys g c =
@@ -33,26 +27,26 @@ returns-clause-keys g c =
     let by = c.args.kept.now.by in
     let rows = c.args.kept.now.rows in
     let are : c.in_ok-before.before ≡ touched_firsts by t t.old.rows =
-    found_firsts by t t.old c.requires.exact.tick.old_table (groups_of rows) c.in_ok-before.before c.requires.keeps.rows c.in_ok-before.ensures.rising (λ first. c.in_ok-before.ensures.firsts first ∙ ap (list_any (starts_numbered rows first)) c.numbers.ensures ∙ c.in_ok-note_before.ensures.firsts first) in
+    found_firsts by t t.old c.requires.exact.tick.old_table (groups_of rows) c.in_ok-before.before c.requires.keeps.rows c.in_ok-before.ensures.rising (λ first. c.in_ok-before.ensures.firsts first ∙ ap (list_any (starts_numbered rows first)) c.numbers.ensures ∙ c.in_ok-note_before.ensures.noted.firsts first) in
     IfOk-weaker c.take.result (λ (notes : PriorRows). notes.keys ≡ c.in_ok-before.before) (λ (notes : PriorRows). notes.keys ≡ touched_firsts by t t.old.rows) (λ notes is. is ∙ are) c.take.ensures.keys
 
 pub returns-in_err-note_before-clause-reads : goal.returns-in_err-note_before-clause-reads
 returns-in_err-note_before-clause-reads g c =
     let t = c.args.input.now in
-    noted_reads t.new.width (length c.args.kept.now.aggs) (length c.args.moving.now.come) 0 (counted t.update) c.args.reads.now c.note_before.new.reads c.note_before.new.reads c.note_before.ensures.reads (omega arith)
-    (came_few c.args.kept.now.by t c.requires.exact c.args.moving.now.come c.requires.come) (omega arith)
+    noted_reads t.new.width (length c.args.kept.now.aggs) (length t.update.added + length t.update.modified) 0 (counted t.update) c.args.reads.now c.note_before.new.reads c.note_before.new.reads c.note_before.ensures.reads (omega arith)
+    (omega arith) (omega arith)
 
 pub returns-in_err-before-clause-reads : goal.returns-in_err-before-clause-reads
 returns-in_err-before-clause-reads g c =
     let t = c.args.input.now in
-    noted_reads t.new.width (length c.args.kept.now.aggs) (length c.args.moving.now.come) 0 (counted t.update) c.args.reads.now c.note_before.new.reads c.note_before.new.reads c.note_before.ensures.reads (omega arith)
-    (came_few c.args.kept.now.by t c.requires.exact c.args.moving.now.come c.requires.come) (omega arith)
+    noted_reads t.new.width (length c.args.kept.now.aggs) (length t.update.added + length t.update.modified) 0 (counted t.update) c.args.reads.now c.note_before.new.reads c.note_before.new.reads c.note_before.ensures.reads (omega arith)
+    (omega arith) (omega arith)
 
 pub returns-clause-reads : goal.returns-clause-reads
 returns-clause-reads g c =
     let t = c.args.input.now in
     let by = c.args.kept.now.by in
     let rows = c.args.kept.now.rows in
-    noted_reads t.new.width (length c.args.kept.now.aggs) (length c.args.moving.now.come) (length c.in_ok-before.before) (counted t.update) c.args.reads.now c.note_before.new.reads c.take.new.reads c.note_before.ensures.reads c.take.ensures.reads
-    (came_few by t c.requires.exact c.args.moving.now.come c.requires.come)
-    (firsts_few by t c.requires.exact rows c.in_ok-before.before c.in_ok-before.ensures.rising (λ first. c.in_ok-before.ensures.firsts first ∙ ap (list_any (starts_numbered rows first)) c.numbers.ensures ∙ c.in_ok-note_before.ensures.firsts first))
+    noted_reads t.new.width (length c.args.kept.now.aggs) (length t.update.added + length t.update.modified) (length c.in_ok-before.before) (counted t.update) c.args.reads.now c.note_before.new.reads c.take.new.reads c.note_before.ensures.reads c.take.ensures.reads
+    (omega arith)
+    (firsts_few by t c.requires.exact rows c.in_ok-before.before c.in_ok-before.ensures.rising (λ first. c.in_ok-before.ensures.firsts first ∙ ap (list_any (starts_numbered rows first)) c.numbers.ensures ∙ c.in_ok-note_before.ensures.noted.firsts first))

@@ -1,61 +1,122 @@
-use Rattle.std.proofs.Common.{◌≡◌, refl, ap, sym, ◌∙◌, ◌||◌, ◌==◌, ◌++◌, subst, true, List, ℤ, map}
-use Rattle.std.{specs.List.{AllByRecursion, list_any}, proofs.lemmas.Result.on_ok_weaker, proofs.lemmas.List.Folds.list_any-append}
-use Rattle.key_lists.{specs.Keys.is_among, proofs.Booleans.or_false}
-use Rattle.row_groups.specs.Members.{groups_of}
-use Rattle.tick_model.specs.Tables.{keys}
-use Rattle.agg_by.{specs.Steps.{changing_before, keeps_groups, kept_cells, key_at, starts, touched_cells}, specs.Touched.{is_named, starts_numbered}, proofs.Answering.own_there, proofs.Changing.kept_touched, proofs.Noted.{named-append, named_nothing, named_one, named_same, starts_own, together, told_of}, proofs.Touching.{came_there, changing_there, left_there}}
+use Rattle.std.proofs.Common.{◌≡◌, ap, sym, ◌∙◌, ◌||◌, ◌++◌, ◌∷◌, [], subst, arith, true, ◌+◌, ◌<◌, ◌≤◌, List, ℕ, append-nil, length, map, take}
+use Rattle.std.{specs.List.list_any, proofs.lemmas.List.take_all, proofs.Math.Nat.mul-le-mul_left}
+use Rattle.tick_model.specs.{Agg.key_cells as cells_by, Updates.Update}
+use Rattle.agg_by.{specs.Steps.{key_at, touched_cells}, specs.Touched.HaveNoted, proofs.Changing.{cells_more, touched_all, touched_kept, went_cells, went_noted}, proofs.Noted.{noted_next, noted_nothing, noted_same}}
 use Rattle.agg_by.proofs.touched.TouchedGroups.note_before.Goals as goal
 
-pub note_coming-requires : goal.note_coming-requires
-note_coming-requires g c =
+pub returns-then-is_empty-clause-noted : goal.returns-then-is_empty-clause-noted
+returns-then-is_empty-clause-noted g c =
     let t = c.args.input.now in
-    subst (AllByRecursion (λ key. is_among key (keys t.new.rows) ≡ true)) (sym c.requires.come) (came_there t c.requires.exact (keeps_groups c.args.kept.now.by t))
-
-pub returns-clause-named : goal.returns-clause-named
-returns-clause-named g c =
-    let t = c.args.input.now in
-    let e = c.requires.exact in
     let by = c.args.kept.now.by in
     let rows = c.args.kept.now.rows in
-    let moving = c.args.moving.now in
-    let changing = changing_before by t in
-    let left_in = own_there by t.old e.tick.old_table (groups_of rows) c.requires.rows moving.gone (subst (AllByRecursion (λ key. is_among key (keys t.old.rows) ≡ true)) (sym c.requires.gone) (left_there t e (keeps_groups by t))) in
-    let changing_in = own_there by t.old e.tick.old_table (groups_of rows) c.requires.rows changing (changing_there t e (keeps_groups by t)) in
-    on_ok_weaker c.note_coming.result
-    (λ named number.
-    let is_own = λ (cells : List (List ℤ)). is_named cells rows.names number in
-    let append = λ (xs ys : List (List ℤ)). named-append xs ys rows.names number in
-    let told = told_of rows (λ other. other == number) is_own (named_nothing rows.names number) append (λ other cells is. sym (named_one other number cells rows.names is)) in
-    let kept = kept_cells rows.members in
-    let news = map (key_at by t.new.rows) moving.come in
-    together (is_among number) is_own c.clear.new.self c.note_all.new.self c.note_all-2.new.self c.note_coming.new.self (map kept moving.gone) (map kept changing) news (touched_cells by t) refl append c.clear.ensures
-    (c.in_ok-note_all.ensures (λ other. other == number) ∙ ap (λ b. is_among number c.clear.new.self || b) (ap (is_among number) c.as_slice.ensures.value ∙ told moving.gone moving.numbers.items left_in c.requires.numbers))
-    (c.in_ok-note_all-2.ensures (λ other. other == number) ∙ ap (λ b. is_among number c.note_all.new.self || b) (ap (is_among number) c.as_slice-2.ensures.value ∙ told changing moving.changing.items changing_in c.requires.changing))
-    (named number)
-    (named_same ((map kept moving.gone ++ map kept changing) ++ news) (touched_cells by t) (kept_touched by t e (groups_of rows) c.requires.rows moving.gone moving.come c.requires.gone c.requires.come) rows.names number))
-    c.note_coming.ensures.named
+    let numbers = c.note_all-2.new.self in
+    let added = map (key_at by t.new.rows) t.update.added in
+    let modified = map (key_at by t.new.rows) t.update.modified in
+    let nothing = noted_nothing rows numbers (c.is_empty.ensures.unnamed.0 c.if-is_empty.true) (c.is_empty.ensures.empty c.if-is_empty.true) in
+    noted_same rows [] numbers ((went_cells by t ++ added) ++ modified)
+    (noted_next rows [] numbers (went_cells by t ++ added)
+    (noted_next rows [] numbers (went_cells by t)
+    (went_noted by t c.requires.exact rows c.requires.rows c.args.leaving.now c.requires.leaving c.clear.new.self c.note_all.new.self numbers c.clear.ensures
+    (λ test. c.in_ok-note_all.ensures test ∙ ap (λ some. list_any test c.clear.new.self || list_any test some) c.as_slice.ensures.value)
+    (λ test. c.in_ok-note_all-2.ensures test ∙ ap (λ some. list_any test c.note_all.new.self || list_any test some) c.as_slice-2.ensures.value))
+    numbers added (nothing added))
+    numbers modified (nothing modified))
+    (touched_cells by t) (touched_all by t c.requires.exact)
 
-pub returns-clause-firsts : goal.returns-clause-firsts
-returns-clause-firsts g c =
+pub loop-place-init : goal.loop-place-init
+loop-place-init g c =
     let t = c.args.input.now in
-    let e = c.requires.exact in
+    let by = c.args.kept.now.by in
+    let rows = c.args.kept.now.rows in record {
+      noted = subst (HaveNoted rows [] c.note_all-2.new.self) (sym (append-nil (went_cells by t)))
+          (went_noted by t c.requires.exact rows c.requires.rows c.args.leaving.now c.requires.leaving c.clear.new.self c.note_all.new.self c.note_all-2.new.self c.clear.ensures
+          (λ test. c.in_ok-note_all.ensures test ∙ ap (λ some. list_any test c.clear.new.self || list_any test some) c.as_slice.ensures.value)
+          (λ test. c.in_ok-note_all-2.ensures test ∙ ap (λ some. list_any test c.note_all.new.self || list_any test some) c.as_slice-2.ensures.value));
+      reads = omega arith;
+    }
+
+pub returns-in_err-note_coming-clause-reads : goal.returns-in_err-note_coming-clause-reads
+returns-in_err-note_coming-clause-reads g c =
+    let t = c.args.input.now in
+    let within : c.loop-place.place + 1 ≤ length t.update.added + length t.update.modified = omega (arith, c.loop-place-test.true, c.len-place-end.ensures.count, ap length (c.added.ensures.keys ∙ ap (λ (update : Update). update.added) c.update.ensures)) in
+    omega (arith, c.loop-place.invariant.reads, c.added_row.ensures.reads, mul-le-mul_left t.new.width within)
+
+pub loop-place-preserved : goal.loop-place-preserved
+loop-place-preserved g c =
+    let t = c.args.input.now in
     let by = c.args.kept.now.by in
     let rows = c.args.kept.now.rows in
-    let moving = c.args.moving.now in
-    let changing = changing_before by t in
-    let left_in = own_there by t.old e.tick.old_table (groups_of rows) c.requires.rows moving.gone (subst (AllByRecursion (λ key. is_among key (keys t.old.rows) ≡ true)) (sym c.requires.gone) (left_there t e (keeps_groups by t))) in
-    let changing_in = own_there by t.old e.tick.old_table (groups_of rows) c.requires.rows changing (changing_there t e (keeps_groups by t)) in
-    on_ok_weaker c.note_coming.result
-    (λ firsts first.
-    let leads = list_any (starts_numbered rows first) in
-    let is_first = list_any (starts rows.members first) in
-    let append = list_any-append (starts rows.members first) in
-    let told = told_of rows (starts_numbered rows first) is_first refl append (λ number cells is. starts_own rows first number cells is.own ∙ sym (or_false (starts rows.members first cells))) in
-    let kept = kept_cells rows.members in
-    let news = map (key_at by t.new.rows) moving.come in
-    together leads is_first c.clear.new.self c.note_all.new.self c.note_all-2.new.self c.note_coming.new.self (map kept moving.gone) (map kept changing) news (touched_cells by t) refl append c.clear.ensures
-    (c.in_ok-note_all.ensures (starts_numbered rows first) ∙ ap (λ b. leads c.clear.new.self || b) (ap leads c.as_slice.ensures.value ∙ told moving.gone moving.numbers.items left_in c.requires.numbers))
-    (c.in_ok-note_all-2.ensures (starts_numbered rows first) ∙ ap (λ b. leads c.note_all.new.self || b) (ap leads c.as_slice-2.ensures.value ∙ told changing moving.changing.items changing_in c.requires.changing))
-    (firsts first)
-    (kept_touched by t e (groups_of rows) c.requires.rows moving.gone moving.come c.requires.gone c.requires.come (starts rows.members first)))
-    c.note_coming.ensures.firsts
+    let place = c.loop-place.place in
+    let own = cells_by by c.added_row.result.now in
+    let within : place < length t.update.added = omega (arith, c.loop-place-test.true, c.len-place-end.ensures.count, ap length (c.added.ensures.keys ∙ ap (λ (update : Update). update.added) c.update.ensures)) in record {
+      noted = subst (HaveNoted rows [] c.note_coming.new.self) (cells_more (went_cells by t) (key_at by t.new.rows) t.update.added place within own (ap (cells_by by) c.added_row.ensures.cells))
+          (noted_next rows [] c.loop-place.self (went_cells by t ++ map (key_at by t.new.rows) (take place t.update.added)) c.loop-place.invariant.noted c.note_coming.new.self (own ∷ []) c.in_ok-note_coming.ensures);
+      reads = omega (arith, c.loop-place.invariant.reads, c.added_row.ensures.reads);
+    }
+
+pub returns-then-leaving-clause-noted : goal.returns-then-leaving-clause-noted
+returns-then-leaving-clause-noted g c =
+    let t = c.args.input.now in
+    let by = c.args.kept.now.by in
+    let rows = c.args.kept.now.rows in
+    let all : take c.loop-place.place t.update.added ≡ t.update.added =
+    take_all c.loop-place.place t.update.added (omega (arith, c.loop-place-test.false, c.len-place-end.ensures.count, ap length (c.added.ensures.keys ∙ ap (λ (update : Update). update.added) c.update.ensures))) in
+    noted_same rows [] c.loop-place.self (went_cells by t ++ map (key_at by t.new.rows) t.update.added)
+    (subst (λ (ks : List ℕ). HaveNoted rows [] c.loop-place.self (went_cells by t ++ map (key_at by t.new.rows) ks)) all c.loop-place.invariant.noted)
+    (touched_cells by t) (touched_kept by t c.requires.exact (sym c.requires.leaving.stay ∙ c.if-leaving.true))
+
+pub returns-then-leaving-clause-reads : goal.returns-then-leaving-clause-reads
+returns-then-leaving-clause-reads g c =
+    let t = c.args.input.now in
+    let within : c.loop-place.place ≤ length t.update.added + length t.update.modified = omega (arith, c.len-place-end.ensures.count, ap length (c.added.ensures.keys ∙ ap (λ (update : Update). update.added) c.update.ensures)) in
+    omega (arith, c.loop-place.invariant.reads, mul-le-mul_left t.new.width within)
+
+pub loop-other-init : goal.loop-other-init
+loop-other-init g c =
+    let t = c.args.input.now in
+    let by = c.args.kept.now.by in
+    let rows = c.args.kept.now.rows in
+    let few : length t.update.added ≤ c.loop-place.place = omega (arith, c.loop-place-test.false, c.len-place-end.ensures.count, ap length (c.added.ensures.keys ∙ ap (λ (update : Update). update.added) c.update.ensures)) in
+    let within : c.loop-place.place ≤ length t.update.added + 0 = omega (arith, c.len-place-end.ensures.count, ap length (c.added.ensures.keys ∙ ap (λ (update : Update). update.added) c.update.ensures)) in record {
+      noted = subst (HaveNoted rows [] c.loop-place.self) (sym (append-nil (went_cells by t ++ map (key_at by t.new.rows) t.update.added)))
+          (subst (λ (ks : List ℕ). HaveNoted rows [] c.loop-place.self (went_cells by t ++ map (key_at by t.new.rows) ks)) (take_all c.loop-place.place t.update.added few) c.loop-place.invariant.noted);
+      reads = omega (arith, c.loop-place.invariant.reads, mul-le-mul_left t.new.width within);
+    }
+
+pub returns-in_err-note_coming-2-clause-reads : goal.returns-in_err-note_coming-2-clause-reads
+returns-in_err-note_coming-2-clause-reads g c =
+    let t = c.args.input.now in
+    let within : length t.update.added + c.loop-other.other + 1 ≤ length t.update.added + length t.update.modified = omega (arith, c.loop-other-test.true, c.len-other-end.ensures.count, ap length (c.modified.ensures.keys ∙ ap (λ (update : Update). update.modified) c.update-2.ensures)) in
+    omega (arith, c.loop-other.invariant.reads, c.modified_row.ensures.reads, mul-le-mul_left t.new.width within)
+
+pub loop-other-preserved : goal.loop-other-preserved
+loop-other-preserved g c =
+    let t = c.args.input.now in
+    let by = c.args.kept.now.by in
+    let rows = c.args.kept.now.rows in
+    let other = c.loop-other.other in
+    let own = cells_by by c.modified_row.result.now in
+    let some = went_cells by t ++ map (key_at by t.new.rows) t.update.added in
+    let within : other < length t.update.modified = omega (arith, c.loop-other-test.true, c.len-other-end.ensures.count, ap length (c.modified.ensures.keys ∙ ap (λ (update : Update). update.modified) c.update-2.ensures)) in record {
+      noted = subst (HaveNoted rows [] c.note_coming-in-loop-other.new.self) (cells_more some (key_at by t.new.rows) t.update.modified other within own (ap (cells_by by) c.modified_row.ensures.cells))
+          (noted_next rows [] c.loop-other.self (some ++ map (key_at by t.new.rows) (take other t.update.modified)) c.loop-other.invariant.noted c.note_coming-in-loop-other.new.self (own ∷ []) c.in_ok-note_coming-2.ensures);
+      reads = omega (arith, c.loop-other.invariant.reads, c.modified_row.ensures.reads);
+    }
+
+pub returns-clause-noted : goal.returns-clause-noted
+returns-clause-noted g c =
+    let t = c.args.input.now in
+    let by = c.args.kept.now.by in
+    let rows = c.args.kept.now.rows in
+    let some = went_cells by t ++ map (key_at by t.new.rows) t.update.added in
+    let all : take c.loop-other.other t.update.modified ≡ t.update.modified =
+    take_all c.loop-other.other t.update.modified (omega (arith, c.loop-other-test.false, c.len-other-end.ensures.count, ap length (c.modified.ensures.keys ∙ ap (λ (update : Update). update.modified) c.update-2.ensures))) in
+    noted_same rows [] c.loop-other.self (some ++ map (key_at by t.new.rows) t.update.modified)
+    (subst (λ (ks : List ℕ). HaveNoted rows [] c.loop-other.self (some ++ map (key_at by t.new.rows) ks)) all c.loop-other.invariant.noted)
+    (touched_cells by t) (touched_all by t c.requires.exact)
+
+pub returns-clause-reads : goal.returns-clause-reads
+returns-clause-reads g c =
+    let t = c.args.input.now in
+    let within : length t.update.added + c.loop-other.other ≤ length t.update.added + length t.update.modified = omega (arith, c.len-other-end.ensures.count, ap length (c.modified.ensures.keys ∙ ap (λ (update : Update). update.modified) c.update-2.ensures)) in
+    omega (arith, c.loop-other.invariant.reads, mul-le-mul_left t.new.width within)
