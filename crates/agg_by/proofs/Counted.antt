@@ -1,6 +1,7 @@
 -- Cells by how often each is among them: cells in order are known by it, and so are those that are left of heaps.
-use Rattle.std.proofs.Common.{◌≡◌, refl, ap, ap₂, sym, ◌∙◌, subst, Bool, true, false, cond, ℕ, zero, suc, ◌+◌, ◌<◌, ◌≤◌, arith, List, [], ◌∷◌, length, get_or, Option, Some, None, ℤ, int_lt, is_ok, is_some, OnOk, Result, Ok, Err, true≢false, if◌then◌else◌}
-use Rattle.std.{specs.BinaryHeap.{IsHeap, IsUpperBound, PopsGreatest}, specs.Cmp.{int_cmp_total, signed_Decides}, specs.List.AllByRecursion, specs.List.Sorted.IsPermutation, specs.Ordering.{int_cmp, int_eq, is_lt}, specs.declared.cmp.Ordering.TheVariants.{Less, Equal, Greater}, specs.Prelude.{IfSome, nat_lt, slice_get}, proofs.lemmas.Bool.lt-ltb, proofs.HeapSift.{empty as heap_empty, greatest as heap_greatest}, proofs.lemmas.Int.ints, proofs.lemmas.List.Sorted.sum_by-IsPermutation, proofs.lemmas.List.Sums.sum_by-cons}
+use Rattle.std.proofs.Common.{◌≡◌, refl, ap, ap₂, sym, ◌∙◌, subst, Bool, true, false, cond, ℕ, zero, suc, ◌+◌, ◌<◌, ◌≤◌, arith, List, [], ◌∷◌, length, get_or, ◌++◌, Bor, Option, Some, None, ℤ, int_lt, is_ok, is_some, OnOk, Result, Ok, Err, true≢false, if◌then◌else◌}
+use Rattle.std.{specs.BinaryHeap.{IsHeap, IsUpperBound, PopsGreatest}, specs.Cmp.{int_cmp_total, signed_Decides}, specs.List.AllByRecursion, specs.List.Sorted.{IsPermutation, IsSorted}, specs.Option.{option_copied, option_eq, option_to_list}, specs.Ordering.{int_cmp, int_eq, is_lt}, specs.declared.cmp.Ordering.TheVariants.{Less, Equal, Greater}, specs.Prelude.{IfSome, nat_lt, slice_get, unwrap_or}, proofs.lemmas.Bool.lt-ltb, proofs.HeapSift.{empty as heap_empty, greatest as heap_greatest}, proofs.lemmas.Int.ints, proofs.lemmas.List.Elements.recursion_from_All, proofs.lemmas.List.Sorted.{IsPermutation-to_front, ranks_by, sorted_far, sum_by-IsPermutation}, proofs.lemmas.List.Sums.sum_by-cons}
+use Rattle.key_lists.proofs.Parts.{every_front}
 use Rattle.row_groups.proofs.Order.{lt_from, lt_to, not_lt_from}
 use Rattle.agg_by.{specs.Values.{Ascends, IsAmong, IsKept, IsSettled, count, in_order, last, left, placed, top, unplaced}, proofs.Ordered.{final, final_above, in_order_ascends, last_final, not_itself, placed_ascends, unplaced_ascends}}
 
@@ -129,13 +130,16 @@ left_is live gone cells is =
 cmp_less : (x y : ℤ) → int_lt x y ≡ true → is_lt (int_cmp x y) ≡ true
 cmp_less x y e = ap (λ b. is_lt (cond b Less (cond (int_lt y x) Greater Equal))) e
 
-no_more : (x v : ℤ) (xs : List ℤ) → IsUpperBound int_cmp x xs → IsAmong v xs → int_lt x v ≡ false
-no_more x v [] h among = absurd (omega (arith, among))
-no_more x v (y ∷ ys) h among = among_cases (int_lt x v ≡ false) v y ys among (λ same. subst (λ z. int_lt x z ≡ false) same (by (int_lt x y) refl)) (no_more x v ys h.1)
+cmp_no_less : (x y : ℤ) → is_lt (int_cmp x y) ≡ false → int_lt x y ≡ false
+cmp_no_less x y e = by (int_lt x y) refl
   where
     by : (b : Bool) → int_lt x y ≡ b → b ≡ false
-    by true e = sym (cmp_less x y e) ∙ h.0
-    by false e = refl
+    by true f = sym (cmp_less x y f) ∙ e
+    by false f = refl
+
+no_more : (x v : ℤ) (xs : List ℤ) → IsUpperBound int_cmp x xs → IsAmong v xs → int_lt x v ≡ false
+no_more x v [] h among = absurd (omega (arith, among))
+no_more x v (y ∷ ys) h among = among_cases (int_lt x v ≡ false) v y ys among (λ same. subst (λ z. int_lt x z ≡ false) same (cmp_no_less x y h.0)) (no_more x v ys h.1)
 
 top_bounds : (xs : List ℤ) → IsHeap int_cmp xs → IsUpperBound int_cmp (top xs) xs
 top_bounds xs h = heap_greatest int_cmp_total xs (top xs) (own xs) h
@@ -241,10 +245,6 @@ pub when_ok : {T E : Type 0} (r : Result T E) (P : Type 0) → is_ok r ≡ true 
 when_ok (Err e) P ok h = absurd (true≢false (sym ok))
 when_ok (Ok x) P ok h = h
 
-pub when_some : (r : Option ℤ) (P : Type 0) → is_some r ≡ true → IfSome r (λ _. P) → P
-when_some None P some h = absurd (true≢false (sym some))
-when_some (Some x) P some h = h
-
 -- what stands first is taken out of a heap
 pub record IsPopped (xs ys : List ℤ) : Type 0 where
   pub counts : (v : ℤ) → count v xs ≡ one (top xs) v + count v ys
@@ -289,41 +289,109 @@ kept_gone live gone more x is heap pushed there =
       }),
     )
 
--- the greatest cell is taken out, which has not gone
-pub kept_popped : (live gone live' : List ℤ) → IsSettled live gone → IsPopped live live' → IsKept live' gone × ((v : ℤ) → count v (left live gone) ≡ one (top live) v + count v (left live' gone))
-kept_popped live gone live' is first = (kept, λ v. omega (arith, (left_counts live gone is.kept.among).counts v, first.counts v, (left_counts live' gone kept.among).counts v))
-  where
-    among : (v : ℤ) → count v gone ≤ count v live'
-    among v = by (int_eq (top live) v) refl
-      where
-        by : (b : Bool) → int_eq (top live) v ≡ b → count v gone ≤ count v live'
-        by true e = omega (arith, ap (λ z. count z gone) (sym ((signed_Decides (top live) v).0 e)) ∙ is.stays)
-        by false e = let none : one (top live) v ≡ 0 = ap (λ b. cond b 1 0) e in omega (arith, is.kept.among v, first.counts v, none)
-
-    kept : IsKept live' gone
-    kept = record { live_heap = first.heap is.kept.live_heap; gone_heap = is.kept.gone_heap; among = among }
-
-pub top_of : (x : ℤ) (xs : List ℤ) → 0 < length xs → x ≡ get_or xs 0 x → x ≡ top xs
-top_of x [] some e = absurd (omega (arith, some))
-top_of x (y ∷ xs) some e = e
-
--- the greatest cell moves to another heap
-pub moved_over : (live gone live' live'' gone'' others others' whole : List ℤ) (x : ℤ) → IsSettled live gone → IsPopped live live' → x ≡ top live → IsPermutation (x ∷ others) others' → left live'' gone'' ≡ left live' gone
-    → ((v : ℤ) → count v others + count v (left live gone) ≡ count v whole) → (v : ℤ) → count v others' + count v (left live'' gone'') ≡ count v whole
-moved_over live gone live' live'' gone'' others others' whole x is first e pushed same counts v =
-    omega (arith, counts v, (kept_popped live gone live' is first).1 v, count_pushed v x others others' pushed, one_same x (top live) v e, ap (count v) same)
-
--- all live cells are in another heap
-pub rebuilt : (live gone others whole : List ℤ) → length live ≡ 0 → IsSettled live gone → IsHeap int_cmp others → Ascends whole → ((v : ℤ) → count v others + count v (left live gone) ≡ count v whole)
-    → IsSettled others [] × (left others [] ≡ whole)
-rebuilt (x ∷ xs) gone others whole none is heap ascends counts = absurd (omega (arith, none))
-rebuilt [] gone others whole none is heap ascends counts = (
-  record { kept = record { live_heap = heap; gone_heap = heap_empty int_cmp_total [] refl; among = λ v. omega arith }; stays = refl },
-  left_is others [] whole (record {
-    ascends = ascends;
-    counts = λ v. omega (arith, ap (count v) (none_left gone is.kept.among), counts v);
-  }),
+-- what a sort leaves of cells
+sorted_ascends : (xs : List ℤ) → ((i j : ℕ) (d : ℤ) → i ≤ j → j < length xs → is_lt (int_cmp (get_or xs j d) (get_or xs i d)) ≡ false) → Ascends xs
+sorted_ascends [] h = tt
+sorted_ascends (x ∷ xs) h = (
+  recursion_from_All (λ y. int_lt y x ≡ false) xs (λ k d within. cmp_no_less (get_or xs k d) x (h 0 (suc k) d (omega arith) (omega (arith, within)))),
+  sorted_ascends xs (λ i j d le within. h (suc i) (suc j) d (omega (arith, le)) (omega (arith, within))),
 )
 
-pub left_ascends : (live gone : List ℤ) → IsSettled live gone → Ascends (left live gone)
-left_ascends live gone is = (left_counts live gone is.kept.among).ascends
+pub sorted_in_order : (xs ys : List ℤ) → IsPermutation xs ys → IsSorted int_cmp ys → ys ≡ in_order xs
+sorted_in_order xs ys moved sorted =
+    let up = sorted_far (λ x y. is_lt (int_cmp x y)) (ranks_by int_cmp_total (λ (cell : ℤ). cell)) ys sorted in
+    same_counts ys (in_order xs) (sorted_ascends ys up) (in_order_ascends xs) (λ v. count_permuted v xs ys moved ∙ sym (count-in_order v xs))
+
+-- the last of cells is taken out
+count_ended : (v x : ℤ) (xs ys : List ℤ) → xs ≡ ys ++ x ∷ [] → count v xs ≡ one x v + count v ys
+count_ended v x xs ys e = ap (count v) e ∙ count_popped v x (ys ++ x ∷ []) ys (IsPermutation-to_front ys x)
+
+final_end : (d x : ℤ) (ys : List ℤ) → final d (ys ++ x ∷ []) ≡ x
+final_end d x [] = refl
+final_end d x (y ∷ ys) = final_end y x ys
+
+last_end : (x : ℤ) (ys : List ℤ) → last (ys ++ x ∷ []) ≡ Some x
+last_end x [] = refl
+last_end x (y ∷ ys) = last_final y (ys ++ x ∷ []) ∙ ap Some (final_end y x ys)
+
+most_end : (x v : ℤ) (ys : List ℤ) → Ascends (ys ++ x ∷ []) → IsAmong v (ys ++ x ∷ []) → int_lt x v ≡ false
+most_end x v [] h among = final_most x [] h v among
+most_end x v (y ∷ ys) h among = subst (λ z. int_lt z v ≡ false) (final_end y x ys) (final_most y (ys ++ x ∷ []) h v among)
+
+front_ascends : (x : ℤ) (ys : List ℤ) → Ascends (ys ++ x ∷ []) → Ascends ys
+front_ascends x [] h = tt
+front_ascends x (y ∷ ys) h = (every_front (λ z. int_lt z y ≡ false) ys (x ∷ []) h.0, front_ascends x ys h.1)
+
+pub last_some : (x : ℤ) (xs : List ℤ) → last xs ≡ Some x → 0 < length xs
+last_some x [] e = absurd (true≢false (sym (ap is_some e)))
+last_some x (y ∷ xs) e = omega arith
+
+pub last_taken : (x : ℤ) (xs ys : List ℤ) (r : Option ℤ) → last xs ≡ Some x → is_some r ≡ true → xs ≡ ys ++ option_to_list r → xs ≡ ys ++ x ∷ []
+last_taken x xs ys None e some is = absurd (true≢false (sym some))
+last_taken x xs ys (Some y) e some is = is ∙ ap (λ z. ys ++ z ∷ []) (ap (λ (z : Option ℤ). unwrap_or z y) (sym (last_end y ys) ∙ ap last (sym is) ∙ e))
+
+pub last_same : (r : Option (Bor ℤ)) (x : Bor ℤ) → option_eq (λ (y z : Bor ℤ). int_eq y.now z.now) r (Some x) ≡ true → option_copied r ≡ Some x.now
+last_same None x e = absurd (true≢false (sym e))
+last_same (Some y) x e = ap Some ((signed_Decides y.now x.now).0 e)
+
+pub last_other : (r : Option (Bor ℤ)) (x : Bor ℤ) → option_eq (λ (y z : Bor ℤ). int_eq y.now z.now) r (Some x) ≡ false → option_copied r ≡ Some x.now → ⊥
+last_other None x e f = true≢false (sym (ap is_some f))
+last_other (Some y) x e f = true≢false (sym ((signed_Decides y.now x.now).1 (ap (λ (z : Option ℤ). unwrap_or z y.now) f)) ∙ e)
+
+-- the greatest of the live cells are gone over, and those of them that stay are the others
+pub record AreParted (live gone others whole : List ℤ) : Type 0 where
+  pub live_ascends : Ascends live
+  pub gone_ascends : Ascends gone
+  pub whole_ascends : Ascends whole
+  pub among : (v : ℤ) → count v gone ≤ count v live
+  pub counts : (v : ℤ) → count v others + count v live ≡ count v gone + count v whole
+
+pub parted : (live gone live' gone' others whole : List ℤ) → IsSettled live gone → left live gone ≡ whole → live' ≡ in_order live → gone' ≡ in_order gone → others ≡ [] → AreParted live' gone' others whole
+parted live gone live' gone' others whole is e all some none =
+    let was = left_counts live gone is.kept.among in
+    let of_live = λ (v : ℤ). ap (count v) all ∙ count-in_order v live in
+    let of_gone = λ (v : ℤ). ap (count v) some ∙ count-in_order v gone in record {
+      live_ascends = subst Ascends (sym all) (in_order_ascends live);
+      gone_ascends = subst Ascends (sym some) (in_order_ascends gone);
+      whole_ascends = subst Ascends e was.ascends;
+      among = λ v. omega (arith, of_live v, of_gone v, is.kept.among v);
+      counts = λ v. omega (arith, of_live v, of_gone v, was.counts v, ap (count v) e, ap (count v) none);
+    }
+
+-- the greatest has gone, or it has not
+pub parted_gone : (live gone others whole live' gone' : List ℤ) (x : ℤ) → AreParted live gone others whole → live ≡ live' ++ x ∷ [] → gone ≡ gone' ++ x ∷ [] → AreParted live' gone' others whole
+parted_gone live gone others whole live' gone' x is e f = record {
+  live_ascends = front_ascends x live' (subst Ascends e is.live_ascends);
+  gone_ascends = front_ascends x gone' (subst Ascends f is.gone_ascends);
+  whole_ascends = is.whole_ascends;
+  among = λ v. omega (arith, is.among v, count_ended v x live live' e, count_ended v x gone gone' f);
+  counts = λ v. omega (arith, is.counts v, count_ended v x live live' e, count_ended v x gone gone' f);
+}
+
+pub parted_more : (live gone others whole live' others' : List ℤ) (x : ℤ) → AreParted live gone others whole → live ≡ live' ++ x ∷ [] → (last gone ≡ Some x → ⊥) → IsPermutation (x ∷ others) others' → AreParted live' gone others' whole
+parted_more live gone others whole live' others' x is e differs pushed = record {
+  live_ascends = front_ascends x live' (subst Ascends e is.live_ascends);
+  gone_ascends = is.gone_ascends;
+  whole_ascends = is.whole_ascends;
+  among = λ v. among v (int_eq x v) refl;
+  counts = λ v. omega (arith, is.counts v, count_ended v x live live' e, count_pushed v x others others' pushed);
+}
+  where
+    most : (v : ℤ) → IsAmong v gone → int_lt x v ≡ false
+    most v there = most_end x v live' (subst Ascends e is.live_ascends) (subst (IsAmong v) e (omega (arith, there, is.among v)))
+
+    stays : (n : ℕ) → count x gone ≡ n → n ≡ 0
+    stays zero f = refl
+    stays (suc n) f = absurd (differs (last_by x gone is.gone_ascends (omega (arith, f)) most))
+
+    among : (v : ℤ) (b : Bool) → int_eq x v ≡ b → count v gone ≤ count v live'
+    among v true f = omega (arith, ap (λ z. count z gone) (sym ((signed_Decides x v).0 f)) ∙ stays (count x gone) refl)
+    among v false f = let none : one x v ≡ 0 = ap (λ b. cond b 1 0) f in omega (arith, is.among v, count_ended v x live live' e, none)
+
+-- all live cells are gone over
+pub rebuilt : (live gone others whole none : List ℤ) → length live ≡ 0 → AreParted live gone others whole → IsHeap int_cmp others → none ≡ [] → IsSettled others none × (left others none ≡ whole)
+rebuilt (x ∷ xs) gone others whole none long is heap e = absurd (omega (arith, long))
+rebuilt [] gone others whole none long is heap e = subst (λ none. IsSettled others none × (left others none ≡ whole)) (sym e) (
+  record { kept = record { live_heap = heap; gone_heap = heap_empty int_cmp_total [] refl; among = λ v. omega arith }; stays = refl },
+  left_is others [] whole (record { ascends = is.whole_ascends; counts = λ v. omega (arith, is.among v, is.counts v) }),
+)

@@ -1,13 +1,14 @@
 //! The cells of a group, with the greatest or the least at hand.
 
-ghost use Rattle.std.specs.Prelude.{◌≡◌, ◌≤◌, nat_lt};
+ghost use Rattle.std.specs.Prelude.{◌≡◌, nat_lt, vec_len};
 ghost use Rattle.std.specs.BinaryHeap.{heap_items, heap_len};
-ghost use Rattle.agg_by.specs.Values.{IsAmong, IsKept, IsSettled, count, greatest as greatest_of, last as last_of, least as least_of, left, opposite as opposite_of, placed, top, unplaced};
+ghost use Rattle.agg_by.specs.Values.{IsAmong, IsKept, IsSettled, count, greatest as greatest_of, in_order, last as last_of, least as least_of, left, opposite as opposite_of, placed, top, unplaced};
 
 use crate::by_number::OfCells;
 use std::alloc::{AllocError, Global};
 use std::collections::BinaryHeap;
 use std::marker::Model;
+use std::mem;
 use tick_model::formula::NULL;
 
 /// So many cells that have gone may wait in any heap.
@@ -58,16 +59,30 @@ impl Values {
         if self.gone.len() <= FEW || self.gone.len() <= self.live.len() / 2 {
             return;
         }
-        let Ok(mut others) = BinaryHeap::with_capacity(self.alloc, self.live.len()) else {
+        let Ok(others) = BinaryHeap::with_capacity(self.alloc, self.live.len()) else {
             return;
         };
-        while let Some(cell) = self.live.pop() {
-            let _ = others.push(cell);
-            settle(&mut self.live, &mut self.gone);
+        let mut live = ascending(mem::replace(&mut self.live, others));
+        let mut gone = ascending(mem::replace(&mut self.gone, BinaryHeap::new(self.alloc)));
+        // The greatest come first, so that none moves in the heap.
+        while let Some(cell) = live.pop() {
+            if gone.last() == Some(&cell) {
+                let _ = gone.pop();
+            } else {
+                let _ = self.live.push(cell);
+            }
         }
-        self.live = others;
-        self.gone = BinaryHeap::new(self.alloc);
     }
+}
+
+/// The cells of a heap in order.
+fn ascending(cells: BinaryHeap<i64>) -> Vec<i64>
+    ensures cells { result.items ≡ in_order (heap_items cells) }
+    ensures len { vec_len result ≡ heap_len cells }
+{
+    let mut cells = cells.into_vec();
+    cells.sort_unstable();
+    cells
 }
 
 /// Takes the greatest of the live cells out while it is one that has gone.
@@ -75,7 +90,6 @@ fn settle(live: &mut BinaryHeap<i64>, gone: &mut BinaryHeap<i64>)
     requires { IsKept (heap_items live.old) (heap_items gone.old) }
     ensures settled { IsSettled (heap_items live.new) (heap_items gone.new) }
     ensures left { left (heap_items live.new) (heap_items gone.new) ≡ left (heap_items live.old) (heap_items gone.old) }
-    ensures len { heap_len live.new ≤ heap_len live.old }
 {
     while has_greatest_gone(live, gone) {
         let _ = live.pop();

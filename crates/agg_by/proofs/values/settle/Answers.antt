@@ -1,6 +1,6 @@
-use Rattle.std.proofs.Common.{◌≡◌, ◌+◌, ◌<◌, ◌∙◌, arith, length, sym}
+use Rattle.std.proofs.Common.{◌<◌, ◌∙◌, arith, length, sym}
 use Rattle.std.proofs.lemmas.Bool.{ltb-true}
-use Rattle.agg_by.{specs.Values.{IsAmong, count, top}, proofs.Counted.{IsPopped, kept_less, popped, some_long, when_some}}
+use Rattle.agg_by.{specs.Values.{IsAmong, count, top}, proofs.Counted.{IsPopped, kept_less, popped, some_long}}
 use Rattle.agg_by.proofs.values.settle.Goals as goal
 
 pub loop-live-preserved : goal.loop-live-preserved
@@ -16,9 +16,7 @@ loop-live-preserved c =
     let there = c.pop-in-loop-live.ensures.variant.1 (omega (arith, gone.ok.0, any)) in
     let first : IsPopped live.items live'.items = popped c.pop.result live.items live'.items here c.pop.ensures.top c.pop.ensures.permutation c.pop.ensures.heap_order in
     let other : IsPopped gone.items gone'.items = popped c.pop-in-loop-live.result gone.items gone'.items there c.pop-in-loop-live.ensures.top c.pop-in-loop-live.ensures.permutation c.pop-in-loop-live.ensures.heap_order in
-    let taken : live'.len + 1 ≡ live.len = when_some c.pop.result (live'.len + 1 ≡ live.len) here c.pop.ensures.len in
     let less = kept_less live.items gone.items live'.items gone'.items c.loop-live.invariant.kept among first other in record {
       kept = less.0;
       left = less.1 ∙ c.loop-live.invariant.left;
-      len = omega (arith, taken, c.loop-live.invariant.len);
     }

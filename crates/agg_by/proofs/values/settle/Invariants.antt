@@ -1,4 +1,4 @@
-use Rattle.std.proofs.Common.{◌≡◌, ◌≤◌}
+use Rattle.std.proofs.Common.{◌≡◌}
 use Rattle.agg_by.specs.Values.{IsKept, left}
 use Rattle.agg_by.proofs.values.settle.Given as goal
 
@@ -6,7 +6,6 @@ abbrev pub invariant-loop-live : goal.invariant-loop-live
 invariant-loop-live l = record {
   kept : IsKept l.live.data.items l.gone.data.items;
   left : left l.live.data.items l.gone.data.items ≡ left l.fn.live.data.items l.fn.gone.data.items;
-  len : l.live.data.len ≤ l.fn.live.data.len;
 }
 
 abbrev pub decreases-loop-live : goal.decreases-loop-live
