@@ -1,7 +1,7 @@
 -- The rows that cross a test in a step of an exact input are those that the filter removes and adds.
 use Rattle.std.proofs.Common.{◌≡◌, refl, ap, ap₂, sym, ◌∙◌, subst, Bool, true, false, not, ◌&&◌, ◌||◌, ℕ, List, [], filter, Option, Some, true≢false, ℤ}
 use Rattle.std.{specs.Prelude.{option_map, unwrap_or}, specs.List.AllByRecursion, specs.Cmp.Rules.signed_items, proofs.lemmas.Bool.not-false}
-use Rattle.key_lists.{specs.Keys.{is_among, without}, proofs.Among.{among-filter, each_among, of_among, absent-filter}, proofs.Every.{every_both, every_weaker, every_unmapped, every-map, every-filter, filter_filter, filter_same, filter-map}, proofs.Rising.{rising-filter, rising_same, rising_some}}
+use Rattle.key_lists.{specs.Keys.{is_among, without}, proofs.Among.{among-filter, of_among, absent-filter}, proofs.Every.{every_both, every_weaker, every_unmapped, filter_filter, filter_same, filter-map}, proofs.Rising.{rising-filter, rising_same, rising_some}}
 use Rattle.row_set.{specs.Sets.{common, united}, proofs.United.{among-united, united_rises}}
 use Rattle.tick_model.{specs.declared.table.PlainRow.PlainRow, specs.declared.table.PlainTable.PlainTable, specs.declared.update.KeyPair.KeyPair, specs.Tables.{cells_at, keys, row_at, IsTable}, specs.Updates.{Tick, Update, between, differs, kept_pair, new_keys, old_keys}, proofs.Among.each_found}
 use Rattle.tick_table.{specs.Exact.{IsExact, tick_of}, specs.Ticking.Ticking}
@@ -208,14 +208,3 @@ module _ (test : List ℤ → Bool) (t : Ticking) (e : IsExact t) where
       (rising-filter (λ (pair : KeyPair). pair.new) passes_first (filter (is_modified t e) (kept t e)) (rising-filter (λ (pair : KeyPair). pair.new) (is_modified t e) (kept t e) e.tick.rising_new)))
       (rising_some (λ key. not (is_among key (new_keys (filter both (kept t e))))) now (rising-filter (λ (row : PlainRow). row.key) (λ row. test row.cells) t.new.rows e.tick.new_table.rising))
       coming_at
-
-  -- the added and the modified rows are there now
-  pub added_there : AllByRecursion (λ key. is_among key (keys t.new.rows) ≡ true) t.update.added
-  added_there = subst (λ (update : Update). AllByRecursion (λ key. is_among key (keys t.new.rows) ≡ true) update.added) (sym e.update)
-      (every-filter (λ key. is_among key (keys t.new.rows) ≡ true) (λ key. not (is_among key (new_keys (kept t e)))) (keys t.new.rows) (each_among (keys t.new.rows)))
-
-  pub modified_there : AllByRecursion (λ (pair : KeyPair). is_among pair.new (keys t.new.rows) ≡ true) (filter (is_modified t e) (kept t e))
-  modified_there = every-filter (λ (pair : KeyPair). is_among pair.new (keys t.new.rows) ≡ true) (is_modified t e) (kept t e) new_there
-
-  pub modified_keys_there : AllByRecursion (λ key. is_among key (keys t.new.rows) ≡ true) (new_keys (filter (is_modified t e) (kept t e)))
-  modified_keys_there = every-map (λ key. is_among key (keys t.new.rows) ≡ true) (λ (pair : KeyPair). pair.new) (filter (is_modified t e) (kept t e)) modified_there

@@ -1,6 +1,6 @@
 -- What a walk over keys or pairs has found so far.
-use Rattle.std.proofs.Common.{◌≡◌, refl, ap, ap₂, sym, ◌∙◌, subst, Bool, true, false, cond, ℕ, ◌+◌, ◌≤◌, ◌*◌, arith, List, [], ◌∷◌, ◌++◌, map, filter, length}
-use Rattle.std.{proofs.lemmas.List.{length-map, map-append}, proofs.lemmas.List.Elements.filter-append}
+use Rattle.std.proofs.Common.{◌≡◌, refl, ap, ap₂, sym, ◌∙◌, subst, Bool, true, false, cond, ℕ, ◌+◌, ◌<◌, ◌≤◌, ◌*◌, arith, List, [], ◌∷◌, ◌++◌, map, filter, length, length-append, get_or, get_or-append-add}
+use Rattle.std.{specs.Prelude.slice_index, proofs.lemmas.List.{length-map, map-append}, proofs.lemmas.List.Elements.filter-append}
 use Rattle.tick_model.{specs.declared.update.KeyPair.KeyPair, specs.Updates.Update}
 use Rattle.tick_table.{specs.Exact.{IsExact, counted}, specs.Ticking.Ticking}
 use Rattle.shown_rows.proofs.Restricted.{is_modified, kept, modified_new}
@@ -21,12 +21,13 @@ named_next f test some pair found more answer so_far is last =
 pub modified_count : (t : Ticking) (e : IsExact t) (pairs : List KeyPair) → pairs ≡ filter (is_modified t e) (kept t e) → length pairs ≡ length t.update.modified
 modified_count t e pairs are = ap length are ∙ sym (length-map (filter (is_modified t e) (kept t e)) (λ (pair : KeyPair). pair.new)) ∙ ap length (sym (modified_new t e))
 
--- the reads of two walks
-pub crossing_reads : (width first second third added modified a m : ℕ) → second ≤ first + width * a → third ≤ second + width * m → a ≡ added → m ≡ modified → third ≤ first + width * (added + modified)
-crossing_reads width first second third added modified a m h k e f = within (subst (λ n. second ≤ first + width * n) e h) (subst (λ n. third ≤ second + width * n) f k)
-  where
-    within : second ≤ first + width * added → third ≤ second + width * modified → third ≤ first + width * (added + modified)
-    within h k = omega (arith, h, k)
+-- the key that a walk comes to stands at the place of its number
+module _ (keys yielded : List ℕ) (key : ℕ) (others : List ℕ) (next : keys ≡ yielded ++ key ∷ others) where
+  pub place_within : length yielded < length keys
+  place_within = omega (arith, ap length next, length-append yielded (key ∷ others))
+
+  pub key_at_place : slice_index keys (length yielded) ≡ key
+  key_at_place = ap (λ n. slice_index keys n) (omega arith) ∙ ap (λ (ks : List ℕ). get_or ks (length yielded + 0) 0) next ∙ get_or-append-add yielded (key ∷ others) 0 0
 
 -- the reads of a filter's step
 pub where_reads : (width first second third : ℕ) (input output : Update) (coming : ℕ) → second ≤ first + width * (length input.added + length input.modified) → third ≤ second + width * (2 * length input.modified + coming) → length output.added ≡ coming → third ≤ first + 4 * (width + width) * (counted input + counted output)

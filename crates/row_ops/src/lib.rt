@@ -10,7 +10,6 @@ mod copies;
 mod crossing;
 mod in_plan;
 mod row_filter;
-mod testing;
 mod view_op;
 mod where_op;
 
