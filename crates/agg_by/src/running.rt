@@ -98,20 +98,12 @@ impl Accumulator {
             Accumulator::Max(_, values) => values
                 .get(number)
                 .map_or(NULL, |values| values.greatest()),
-            Accumulator::First(column) => cell_or_null(
-                group.first_key(),
-                *column,
-                version,
-                input,
-                reads,
-            ),
-            Accumulator::Last(column) => cell_or_null(
-                group.last_key(),
-                *column,
-                version,
-                input,
-                reads,
-            ),
+            Accumulator::First(column) => {
+                cell_or_null(group.first_key(), *column, version, input, reads)
+            }
+            Accumulator::Last(column) => {
+                cell_or_null(group.last_key(), *column, version, input, reads)
+            }
         }
     }
 }

@@ -36,7 +36,7 @@ fn put_keys(all: &mut RowSet, more: &RowSet, offset: u64) -> Result<(), AllocErr
 
 /// The rows that a step touches, put together input by input.
 #[derive(Drop)]
-struct MergedRows {
+struct MergedUpdate {
     removed: RowSet,
     added: RowSet,
     /// The modified rows, by their keys before the step and now.
@@ -46,15 +46,15 @@ struct MergedRows {
     shift: ShiftData,
 }
 
-impl MergedRows {
-    fn new(alloc: Global) -> MergedRows
+impl MergedUpdate {
+    fn new(alloc: Global) -> MergedUpdate
         ensures removed { result.removed ≡ [] }
         ensures added { result.added ≡ [] }
         ensures before { result.before ≡ [] }
         ensures now { result.now ≡ [] }
         ensures shift { result.shift ≡ [] }
     {
-        MergedRows {
+        MergedUpdate {
             removed: RowSet::new(alloc),
             added: RowSet::new(alloc),
             before: RowSet::new(alloc),
@@ -109,13 +109,13 @@ pub(crate) fn touched_rows(
     ensures added { IfOk result (λ touched. length touched.added ≡ sum_by (λ input. length input.update.added) (tables inputs.now)) }
     ensures modified { IfOk result (λ touched. length touched.compared_now ≡ sum_by (λ input. length input.update.modified) (tables inputs.now)) }
 {
-    let mut gathered = MergedRows::new(alloc);
+    let mut gathered = MergedUpdate::new(alloc);
     let mut start = Start { before: 0, now: 0 };
     for input in inputs {
         gathered.put(input, start)?;
         start = behind(start, input);
     }
-    let MergedRows {
+    let MergedUpdate {
         removed,
         added,
         before,

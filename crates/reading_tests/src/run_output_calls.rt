@@ -48,12 +48,8 @@ fn an_output_is_read_back(rt: HostRuntime) -> Result<(), Fail> {
     );
     assert!(rt; matches!(entries.get(3), Some(OutputEntry::Fault { fields }) if fields.len() == 3));
     let ended = read_output(rt.alloc(), b"done,7\n", &tables, &texts)?;
-    assert!(rt;
-        matches!(
-            ended.as_slice().first(),
-            Some(OutputEntry::Done { step: 7 })
-        )
-    );
+    let first = ended.as_slice().first();
+    assert!(rt; matches!(first, Some(OutputEntry::Done { step: 7 })));
     Ok(())
 }
 

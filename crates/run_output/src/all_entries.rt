@@ -5,7 +5,7 @@ ghost use Rattle.update_text.specs.Reading.{Gives};
 ghost use Rattle.run_output.specs.declared.entry.OutputEntry.{OutputEntry as EntryOf};
 ghost use Rattle.run_output.specs.Entries.{AreShown, IsEntry, output_text};
 
-use crate::entry::Entry;
+use crate::entry::OutputEntry;
 use crate::one_entry::read_entry;
 use crate::split::split_entry;
 use std::alloc::Global;
@@ -22,7 +22,7 @@ pub fn read_output(
     bytes: &[u8],
     tables: &Items<Shown>,
     texts: &Items<Name>,
-) -> Result<Items<Entry>, PrintedFault>
+) -> Result<Items<OutputEntry>, PrintedFault>
     requires { AreShown tables.now texts.now }
     ensures entries { IfOk result (AllByRecursion (IsEntry tables.now texts.now)) }
     ensures text { IfOk result (λ entries. bytes.now ≡ output_text tables.now texts.now entries) }

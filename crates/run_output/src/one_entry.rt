@@ -10,7 +10,7 @@ ghost use Rattle.run_output.specs.declared.entry.OutputEntry.{OutputEntry as Ent
 ghost use Rattle.run_output.specs.declared.entry.OutputEntry.TheVariants.{Update, Snapshot as SnapshotEntry, Done, Fault};
 ghost use Rattle.run_output.specs.Entries.{AreShown, IsEntry, entry_text, shown_at};
 
-use crate::entry::Entry;
+use crate::entry::OutputEntry;
 use std::alloc::Global;
 use tick_model::items::Items;
 use tick_model::name::Name;
@@ -36,7 +36,7 @@ fn read_change(
     tables: &[Shown],
     texts: &Items<Name>,
     name: &[u8],
-) -> Result<Entry, PrintedFault>
+) -> Result<OutputEntry, PrintedFault>
     requires { AreShown tables.now texts.now }
     ensures entry { IfOk result (IsEntry tables.now texts.now) }
     ensures text { IfOk result (λ entry. bytes.now ≡ entry_text tables.now texts.now entry) }
@@ -47,7 +47,7 @@ fn read_change(
         return Err(PrintedFault::NotPrinted);
     };
     let printed = read_update(alloc, bytes, &tables[table], texts)?;
-    Ok(Entry::Update {
+    Ok(OutputEntry::Update {
         table,
         step: printed.step,
         change: printed.change,
@@ -61,7 +61,7 @@ fn read_table(
     tables: &[Shown],
     texts: &Items<Name>,
     name: &[u8],
-) -> Result<Entry, PrintedFault>
+) -> Result<OutputEntry, PrintedFault>
     requires { AreShown tables.now texts.now }
     ensures entry { IfOk result (IsEntry tables.now texts.now) }
     ensures text { IfOk result (λ entry. bytes.now ≡ entry_text tables.now texts.now entry) }
@@ -72,7 +72,7 @@ fn read_table(
         return Err(PrintedFault::NotPrinted);
     };
     let snapshot = read_snapshot(alloc, bytes, &tables[table], texts)?;
-    Ok(Entry::Snapshot { table, snapshot })
+    Ok(OutputEntry::Snapshot { table, snapshot })
 }
 
 /// Whether a field is this tag.
@@ -105,7 +105,7 @@ fn is_done(fields: &Items<Items<u8>>) -> bool
 }
 
 /// Reads the end of an output without a fault.
-fn read_done(alloc: Global, bytes: &[u8]) -> Result<Entry, PrintedFault>
+fn read_done(alloc: Global, bytes: &[u8]) -> Result<OutputEntry, PrintedFault>
     ensures entry { (tables : List ShownOf) (texts : List (List ℕ)) → IfOk result (IsEntry tables texts) }
     ensures text { (tables : List ShownOf) (texts : List (List ℕ)) → IfOk result (λ entry. bytes.now ≡ entry_text tables texts entry) }
     ensures told { (step : ℕ) → step < 2 ^ 64 → bytes.now ≡ record_text (done_record step) → Gives result (λ read. read ≡ Done step) }
@@ -113,7 +113,7 @@ fn read_done(alloc: Global, bytes: &[u8]) -> Result<Entry, PrintedFault>
     let fields = read_record(alloc, bytes)?;
     if is_done(&fields) {
         let step = read_number(field_at(&fields, 1))?;
-        Ok(Entry::Done { step })
+        Ok(OutputEntry::Done { step })
     } else {
         Err(PrintedFault::NotPrinted)
     }
@@ -130,14 +130,14 @@ fn behind_first(fields: Items<Items<u8>>) -> Items<Items<u8>>
 }
 
 /// Reads the end of an output by a fault.
-fn read_fault(alloc: Global, bytes: &[u8]) -> Result<Entry, PrintedFault>
+fn read_fault(alloc: Global, bytes: &[u8]) -> Result<OutputEntry, PrintedFault>
     ensures entry { (tables : List ShownOf) (texts : List (List ℕ)) → IfOk result (IsEntry tables texts) }
     ensures text { (tables : List ShownOf) (texts : List (List ℕ)) → IfOk result (λ entry. bytes.now ≡ entry_text tables texts entry) }
     ensures told { (fields : List (List ℕ)) → bytes.now ≡ record_text (codes "fault" ∷ fields) → Gives result (λ read. read ≡ Fault fields) }
 {
     let fields = read_record(alloc, bytes)?;
     if is_tag(field_at(&fields, 0), b"fault") {
-        Ok(Entry::Fault {
+        Ok(OutputEntry::Fault {
             fields: behind_first(fields),
         })
     } else {
@@ -151,7 +151,7 @@ pub(crate) fn read_entry(
     bytes: &[u8],
     tables: &[Shown],
     texts: &Items<Name>,
-) -> Result<Entry, PrintedFault>
+) -> Result<OutputEntry, PrintedFault>
     requires { AreShown tables.now texts.now }
     ensures entry { IfOk result (IsEntry tables.now texts.now) }
     ensures text { IfOk result (λ entry. bytes.now ≡ entry_text tables.now texts.now entry) }

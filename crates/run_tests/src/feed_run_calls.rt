@@ -55,7 +55,7 @@ impl Failing {
 
 /// One call of the program.
 #[derive(Clone, Copy)]
-struct FeedCase {
+struct Case {
     /// The words, with one space between two of them.
     words: &'static str,
     /// The file `s`, where it is there.
@@ -147,11 +147,7 @@ fn compare<R: Abort + Threads + Wait + Sync>(
     Ok(())
 }
 
-fn run<R: Abort + Threads + Wait + Sync>(
-    rt: &R,
-    alloc: Global,
-    case: &FeedCase,
-) -> Result<(), Fail> {
+fn run<R: Abort + Threads + Wait + Sync>(rt: &R, alloc: Global, case: &Case) -> Result<(), Fail> {
     let texts = [("s", case.script), ("f", case.feed), ("t.csv", case.table)];
     compare(
         rt,
@@ -232,7 +228,7 @@ fn so_many_words_are_kept(rt: HostRuntime) -> Result<(), Fail> {
 
 #[test]
 fn words_and_files_are_answered(rt: HostRuntime) -> Result<(), Fail> {
-    let whole = FeedCase {
+    let whole = Case {
         words: "run s f",
         script: Some(FROM_FILE),
         feed: Some(""),
@@ -243,79 +239,79 @@ fn words_and_files_are_answered(rt: HostRuntime) -> Result<(), Fail> {
     };
     let cases = [
         whole,
-        FeedCase {
+        Case {
             table: Some("y\n1\n\"\"\n3\n"),
             status: 5,
             bytes: "fault,5,table,t,1,header\n",
             ..whole
         },
-        FeedCase {
+        Case {
             script: None,
             status: 3,
             bytes: "fault,3,read,s\n",
             ..whole
         },
-        FeedCase {
+        Case {
             table: None,
             status: 3,
             bytes: "fault,3,read,t.csv\n",
             ..whole
         },
-        FeedCase {
+        Case {
             feed: None,
             status: 3,
             bytes: "fault,3,read,f\n",
             ..whole
         },
-        FeedCase {
+        Case {
             words: "",
             status: 2,
             bytes: "fault,2,usage\n",
             ..whole
         },
-        FeedCase {
+        Case {
             words: "run s",
             status: 2,
             bytes: "fault,2,usage\n",
             ..whole
         },
-        FeedCase {
+        Case {
             words: "run s f --workers 0",
             status: 2,
             bytes: "fault,2,usage\n",
             ..whole
         },
-        FeedCase {
+        Case {
             failing: Failing::load(1),
             status: 3,
             bytes: "fault,3,read,s\n",
             ..whole
         },
-        FeedCase {
+        Case {
             failing: Failing::load(2),
             status: 3,
             bytes: "fault,3,read,t.csv\n",
             ..whole
         },
-        FeedCase {
+        Case {
             failing: Failing::load(3),
             status: 3,
             bytes: "fault,3,read,f\n",
             ..whole
         },
-        FeedCase {
+        Case {
             failing: Failing::write(1),
             status: 10,
             bytes: "",
             ..whole
         },
-        FeedCase {
+        Case {
             failing: Failing::write(2),
             status: 10,
             bytes: "step,0,t\na,0,1\na,1,\na,2,3\n",
             ..whole
         },
-        FeedCase {
+        Case {
             failing: Failing::write(3),
             ..whole
         },

@@ -1,6 +1,6 @@
 use Rattle.table_operator.specs.Inputs.{tables}
 use Rattle.operators.{specs.declared.running.AnyOperator.TheVariants.{Where, Agg, Head, Tail}, proofs.Stepped.{as_change, as_reads}}
-use Rattle.operators.proofs.running.RunningTableOperator.advance.Goals as goal
+use Rattle.operators.proofs.running.AnyOperatorTableOperator.advance.Goals as goal
 
 pub returns-in_ok-filter-in-Where-clause-change : goal.returns-in_ok-filter-in-Where-clause-change
 returns-in_ok-filter-in-Where-clause-change g c = as_change c.args.self (Where c.in-Where.filter) c.in-Where.is (tables c.args.inputs.now) c.in_ok-filter-in-Where.change c.in_ok-filter-in-Where.ensures.change

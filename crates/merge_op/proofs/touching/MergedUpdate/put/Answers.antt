@@ -3,7 +3,7 @@ use Rattle.std.{specs.Prelude.OnOk, specs.List.AllByRecursion}
 use Rattle.tick_model.{specs.declared.update.ShiftRange.ShiftRange, specs.Tables.keys}
 use Rattle.merge_op.{specs.declared.starts.Start.Start, proofs.Going.{added_there, before_there, now_there, removed_there, small_part}, proofs.Paired.{modified_before, modified_now}}
 use Rattle.tick_table.proofs.ExactAgain.{exact_lawful}
-use Rattle.merge_op.proofs.touching.MergedRows.put.Goals as goal
+use Rattle.merge_op.proofs.touching.MergedUpdate.put.Goals as goal
 
 pub put_keys-requires-clause-small : goal.put_keys-requires-clause-small
 put_keys-requires-clause-small c = rw (c.removed.ensures.keys, c.update-update.ensures) (small_part c.args.start.before (keys c.args.input.now.old.rows) c.args.input.now.update.removed c.requires.small_before (removed_there c.args.input.now c.requires.exact))
