@@ -15,7 +15,7 @@ pub(crate) enum Fault {
     /// There is no run.
     Read(feed_run::LoadStop),
     /// The run goes no further.
-    Step(update_graph::LoadStop),
+    Step(update_graph::Stop),
     /// The mirror does not take a change.
     Mirror(MirrorFault),
     /// The plan has no such table.
@@ -46,8 +46,8 @@ impl From<feed_run::LoadStop> for Fault {
     }
 }
 
-impl From<update_graph::LoadStop> for Fault {
-    fn from(stop: update_graph::LoadStop) -> Fault {
+impl From<update_graph::Stop> for Fault {
+    fn from(stop: update_graph::Stop) -> Fault {
         Fault::Step(stop)
     }
 }
