@@ -1,6 +1,6 @@
 -- Lists of blocks: where a key is found in them.
-use Rattle.std.proofs.Common.{◌≡◌, ◌≢◌, refl, ap, sym, ◌∙◌, subst, true, false, cond, ℕ, zero, suc, ◌-◌, ◌<◌, ◌≤◌, arith, List, [], ◌∷◌, ◌++◌, map, length, take, drop, get_or, Option, Some, None, leb, leb-true, leb-false, ltb, ltb-true, ltb-false, take-append-drop, take_all}
-use Rattle.std.{specs.Option.option_or, specs.Prelude.slice_get, specs.List.AllByRecursion, specs.List.Sorted.{IsPartitionPoint, IsPartitionedBy, IsNonDecreasingBy}, proofs.lemmas.Bool.eq-eqb, proofs.lemmas.List.Sorted.{IsPartitionedBy-leb, IsPartitionedBy-ltb}, proofs.lemmas.List.map-append, proofs.lemmas.List.Elements.recursion_from_All, proofs.lemmas.Option.get_or_from_slice_get, proofs.lemmas.Grind.flat_map-append}
+use Rattle.std.proofs.Common.{◌≡◌, ◌≢◌, refl, ap, sym, ◌∙◌, subst, true, false, cond, ℕ, zero, suc, ◌-◌, ◌<◌, ◌≤◌, arith, List, [], ◌∷◌, ◌++◌, map, length, take, drop, get_or, Option, Some, None, ltb, ltb-true, ltb-false, take-append-drop, take_all}
+use Rattle.std.{specs.Option.option_or, specs.Prelude.slice_get, specs.List.AllByRecursion, specs.List.Sorted.{IsPartitionPoint, IsPartitionedBy, IsNonDecreasingBy}, proofs.lemmas.Bool.eq-eqb, proofs.lemmas.List.Sorted.{IsPartitionedBy-ltb}, proofs.lemmas.List.map-append, proofs.lemmas.List.Elements.recursion_from_All, proofs.lemmas.Option.get_or_from_slice_get, proofs.lemmas.Grind.flat_map-append}
 use Rattle.key_lists.{proofs.Every.{every_weaker, every-append, every-map, every_unmapped}, proofs.Parts.{every_front, every_back, front_part, back_part, every_at, around, last_taken}}
 use Rattle.row_handles.{specs.declared.block.RowBlock.RowBlock, specs.declared.block.BlockRow.BlockRow, specs.Entries.{handle_under, Ascend}, specs.Blocks.{IsBlock, entry_at, rows_of, rows}, proofs.EntryLists.{handle_under-append, handle_under-above, handle_under-below, ascend_front, ascend_back, begin_has, from_begin, begin_below, below_begin}}
 
@@ -68,6 +68,17 @@ handle_not_here ceiling key xs i row ascend lt is h le other =
     tail : Ascend (entry_at ceiling row ∷ map (entry_at ceiling) (drop (suc i) xs))
     tail = subst (λ rs. Ascend (map (entry_at ceiling) rs)) (dropped xs i row lt is) (ascend_back (map (entry_at ceiling) (take i xs)) (map (entry_at ceiling) (drop i xs)) (subst Ascend (parts ceiling xs i) ascend))
 
+-- the rows before one have smaller keys
+pub rows_before_row : (ceiling : ℕ) (xs : List BlockRow) (i : ℕ) (d : BlockRow) → Ascend (map (entry_at ceiling) xs) → i < length xs → AllByRecursion (λ row. ceiling - row.depth < ceiling - (get_or xs i d).depth) (take i xs)
+rows_before_row ceiling [] i d ascend lt = absurd (omega arith)
+rows_before_row ceiling (x ∷ xs) zero d ascend lt = tt
+rows_before_row ceiling (x ∷ xs) (suc i) d ascend lt =
+    (every_at (λ row. ceiling - x.depth < ceiling - row.depth) xs i d (omega arith) (every_unmapped (λ y. ceiling - x.depth < y.key) (entry_at ceiling) xs ascend.0), rows_before_row ceiling xs i d ascend.1 (omega arith))
+
+pub handle_found : (ceiling key : ℕ) (xs : List BlockRow) (i : ℕ) (row : BlockRow) → Ascend (map (entry_at ceiling) xs) → i < length xs → row ≡ get_or xs i row → ceiling - row.depth ≡ key → handle_under key (map (entry_at ceiling) xs) ≡ Some row.handle
+handle_found ceiling key xs i row ascend lt is same =
+    handle_here ceiling key xs i row lt is (subst (λ k. AllByRecursion (λ other. ceiling - other.depth < k) (take i xs)) (ap (λ other. ceiling - other.depth) (sym is) ∙ same) (rows_before_row ceiling xs i row ascend lt)) same
+
 -- rows above a bound are in blocks that begin above it
 pub firsts_above : (bound : ℕ) (blocks : List RowBlock) → AllByRecursion IsBlock blocks → AllByRecursion (λ x. bound < x.key) (rows blocks) → AllByRecursion (λ block. bound < block.first) blocks
 firsts_above bound [] sound h = tt
@@ -90,14 +101,18 @@ firsts_rise (block ∷ blocks) sound ascend zero (suc j) d le lt = lt_le block.f
 firsts_rise (block ∷ blocks) sound ascend (suc i) zero d le lt = absurd (omega arith)
 firsts_rise (block ∷ blocks) sound ascend (suc i) (suc j) d le lt = firsts_rise blocks sound.1 (ascend_back (rows_of block) (rows blocks) ascend) i j d (omega arith) (omega arith)
 
-pub firsts_parted : (key : ℕ) (blocks : List RowBlock) → AllByRecursion IsBlock blocks → Ascend (rows blocks) → IsPartitionedBy (λ block. leb block.first key) blocks
-firsts_parted key blocks sound ascend = IsPartitionedBy-leb (λ block. block.first) blocks key (firsts_rise blocks sound ascend)
+-- the blocks up to one that begins at the key or before it, and those from one that begins behind it
+pub begun_to : (key : ℕ) (blocks : List RowBlock) (i : ℕ) (d : RowBlock) → AllByRecursion IsBlock blocks → Ascend (rows blocks) → i < length blocks → (get_or blocks i d).first ≤ key → AllByRecursion (λ block. block.first ≤ key) (take (suc i) blocks)
+begun_to key [] i d sound ascend lt le = absurd (omega arith)
+begun_to key (block ∷ blocks) zero d sound ascend lt le = (le, tt)
+begun_to key (block ∷ blocks) (suc i) d sound ascend lt le =
+    (omega (arith, le, every_at (λ other. block.first < other.first) blocks i d (omega arith) (later_firsts block blocks sound ascend)), begun_to key blocks i d sound.1 (ascend_back (rows_of block) (rows blocks) ascend) (omega arith) le)
 
-pub begun_part : (key : ℕ) (blocks : List RowBlock) (i : ℕ) → IsPartitionPoint (λ block. leb block.first key ≡ true) (λ block. leb block.first key ≡ false) blocks i → AllByRecursion (λ block. block.first ≤ key) (take i blocks)
-begun_part key blocks i h = every_weaker (λ block. leb block.first key ≡ true) (λ block. block.first ≤ key) (take i blocks) (λ block e. leb-true block.first key e) (front_part (λ block. leb block.first key) blocks i h)
-
-pub not_begun_part : (key : ℕ) (blocks : List RowBlock) (i : ℕ) → IsPartitionPoint (λ block. leb block.first key ≡ true) (λ block. leb block.first key ≡ false) blocks i → AllByRecursion (λ block. key < block.first) (drop i blocks)
-not_begun_part key blocks i h = every_weaker (λ block. leb block.first key ≡ false) (λ block. key < block.first) (drop i blocks) (λ block e. leb-false block.first key e) (back_part (λ block. leb block.first key) blocks i h)
+pub others_from : (key : ℕ) (blocks : List RowBlock) (i : ℕ) (d : RowBlock) → AllByRecursion IsBlock blocks → Ascend (rows blocks) → i < length blocks → key < (get_or blocks i d).first → AllByRecursion (λ block. key < block.first) (drop i blocks)
+others_from key [] i d sound ascend lt above = absurd (omega arith)
+others_from key (block ∷ blocks) zero d sound ascend lt above =
+    (above, every_weaker (λ other. block.first < other.first) (λ other. key < other.first) blocks (λ other later. omega (arith, above, later)) (later_firsts block blocks sound ascend))
+others_from key (block ∷ blocks) (suc i) d sound ascend lt above = others_from key blocks i d sound.1 (ascend_back (rows_of block) (rows blocks) ascend) (omega arith) above
 
 -- the rows before a block are below it
 pub rows_before : (front : List RowBlock) (block : RowBlock) (back : List RowBlock) → IsBlock block → Ascend (rows (front ++ block ∷ back)) → AllByRecursion (λ x. x.key < block.first) (rows front)

@@ -1,5 +1,5 @@
 //! A block of rows that follow one another.
-ghost use Rattle.std.specs.Prelude.{◌≡◌, ◌+◌, ◌-◌, ◌^◌, ◌<◌, ◌≤◌, length, take, drop, IfSome, IfOk};
+ghost use Rattle.std.specs.Prelude.{◌≡◌, ◌+◌, ◌-◌, ◌^◌, ◌<◌, ◌≤◌, length, take, drop, Some, IfSome, IfOk};
 ghost use Rattle.std.specs.List.{AllByRecursion};
 ghost use Rattle.row_handles.specs.Entries.{Ascend, handle_under};
 
@@ -84,16 +84,26 @@ impl RowBlock {
         }
     }
 
-    /// The handle of the row under a key.
+    /// The handle of the row under a key. Rows mostly stand under keys that follow one another: it is looked for there first.
     pub(crate) fn handle_at(&self, key: u64) -> Option<usize>
         requires { Ascend (rows_of self.now) }
         ensures { result ≡ handle_under key (rows_of self.now) }
     {
-        let place = self.rows_below(key);
-        if place == self.rows.len() {
-            return None;
+        let likely = key.wrapping_sub(self.first) as usize;
+        match self.handle_there(likely, key) {
+            Some(handle) => Some(handle),
+            None => self.handle_there(self.rows_below(key), key),
         }
-        let row = self.rows[place];
+    }
+
+    /// The handle of the row at a place, if there is one and it has this key.
+    fn handle_there(&self, place: usize, key: u64) -> Option<usize>
+        requires { Ascend (rows_of self.now) }
+        ensures found { IfSome result (λ handle. handle_under key (rows_of self.now) ≡ Some handle) }
+        ensures all { AllByRecursion (λ row. self.now.ceiling - row.depth < key) (take place self.now.rows.items) →
+            AllByRecursion (λ row. key ≤ self.now.ceiling - row.depth) (drop place self.now.rows.items) → result ≡ handle_under key (rows_of self.now) }
+    {
+        let row = self.rows.get(place).copied()?;
         if row.key(self.ceiling) == key {
             Some(row.handle())
         } else {

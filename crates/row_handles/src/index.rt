@@ -6,6 +6,7 @@ ghost use Rattle.row_handles.specs.Blocks.{AtBlock, IsBlock, IsIndex, rows};
 ghost use Rattle.row_handles.specs.Moves.{IsBeside};
 
 use crate::block::{BlockRow, RowBlock};
+use crate::search::{inside, likely_place};
 use slab::Slab;
 use std::alloc::{AllocError, Global};
 
@@ -30,7 +31,8 @@ pub(crate) struct HandleIndex {
     pub(crate) places: Slab<Location>,
 }
 
-/// How many of the blocks begin at the key or before it. Where the last one does, no other is looked at.
+/// How many of the blocks begin at the key or before it. Where the last one does, no other is looked at; else they are looked for
+/// where they are likely to end, and farther from there by growing steps.
 pub(crate) fn begun_by(blocks: &[RowBlock], key: u64) -> usize
     requires sound { AllByRecursion IsBlock blocks.now }
     requires ascend { Ascend (rows blocks.now) }
@@ -38,10 +40,29 @@ pub(crate) fn begun_by(blocks: &[RowBlock], key: u64) -> usize
     ensures begun { AllByRecursion (λ block. block.first ≤ key) (take result blocks.now) }
     ensures others { AllByRecursion (λ block. key < block.first) (drop result blocks.now) }
 {
-    match blocks.last() {
-        Some(last) if last.first <= key => blocks.len(),
-        _ => blocks.partition_point(|block| block.first <= key),
+    let (Some(first), Some(last)) = (blocks.first(), blocks.last()) else {
+        return 0;
+    };
+    if last.first <= key {
+        return blocks.len();
     }
+    let mut guess = likely_place(first.first, last.first, key, blocks.len());
+    let mut step: usize = 1;
+    let mut low = 0;
+    let mut high = blocks.len();
+    while low < high {
+        let middle = inside(guess, low, high);
+        let far = step;
+        step = step.saturating_mul(2);
+        if blocks[middle].first <= key {
+            low = middle + 1;
+            guess = middle.saturating_add(far);
+        } else {
+            high = middle;
+            guess = middle.saturating_sub(far);
+        }
+    }
+    low
 }
 
 /// A number of a row or a block in 32 bits: memory runs out before there are more of them.

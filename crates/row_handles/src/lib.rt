@@ -7,5 +7,7 @@ mod handles;
 mod index;
 mod joins;
 mod moves;
+mod search;
 
 pub use handles::{Handle, Handles};
+pub use search::{inside, likely_place};

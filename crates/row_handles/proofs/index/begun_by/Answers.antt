@@ -1,20 +1,37 @@
-use Rattle.std.proofs.Common.{◌≤◌, arith, leb, length, rules, sym}
-use Rattle.std.proofs.lemmas.List.Sorted.{IsPartitionPoint-from_clause}
+use Rattle.std.proofs.Common.{◌≤◌, ◌<◌, arith, length, take, drop, subst, sym, ℕ, add-one}
+use Rattle.std.specs.List.{AllByRecursion}
 use Rattle.key_lists.proofs.Parts.{every-take}
-use Rattle.row_handles.proofs.Listings.{begun_part, firsts_parted, firsts_rise, not_begun_part, until_last}
+use Rattle.row_handles.proofs.Listings.{begun_to, firsts_rise, others_from, until_last}
 use Rattle.row_handles.proofs.index.begun_by.Goals as goal
 
-pub returns-in-Some-clause-begun : goal.returns-in-Some-clause-begun
-returns-in-Some-clause-begun c =
+pub returns-then-last-key-clause-begun : goal.returns-then-last-key-clause-begun
+returns-then-last-key-clause-begun c =
     every-take (λ block. block.first ≤ c.args.key) (length c.args.blocks.now) c.args.blocks.now
-    (until_last (λ block. block.first) (λ block. block.first ≤ c.args.key) (λ x y le lt. omega (arith, le, lt)) c.args.blocks.now c.in-Some.last.now (firsts_rise c.args.blocks.now c.requires.sound c.requires.ascend) (sym c.in-Some.ensures.value) c.if-last-key.true)
+    (until_last (λ block. block.first) (λ block. block.first ≤ c.args.key) (λ x y le lt. omega (arith, le, lt)) c.args.blocks.now c.in-Some-Some.last.now (firsts_rise c.args.blocks.now c.requires.sound c.requires.ascend) (sym c.in-Some-Some.ensures'.value) c.if-last-key.true)
 
-pub returns-in_default-clause-begun : goal.returns-in_default-clause-begun
-returns-in_default-clause-begun c =
-    begun_part c.args.key c.args.blocks.now c.partition_point.result
-    (IsPartitionPoint-from_clause (λ block. leb block.first c.args.key) c.args.blocks.now c.partition_point.result c.partition_point.ensures.partitioned (firsts_parted c.args.key c.args.blocks.now c.requires.sound c.requires.ascend) (λ a r f h. search rules))
+pub loop-low-preserved-then-blocks-middle : goal.loop-low-preserved-then-blocks-middle
+loop-low-preserved-then-blocks-middle c =
+    let middle : ℕ = c.inside-middle.result in
+    let blocks = c.args.blocks.now in
+    let lt : middle < length blocks = omega (arith, c.inside-middle.ensures.to, c.loop-low.invariant.within) in
+    record {
+      order = omega (arith, c.inside-middle.ensures.to);
+      within = c.loop-low.invariant.within;
+      begun = subst (λ n. AllByRecursion (λ block. block.first ≤ c.args.key) (take n blocks)) (sym (add-one middle)) (begun_to c.args.key blocks middle _ c.requires.sound c.requires.ascend lt c.if-blocks-middle.true);
+      others = c.loop-low.invariant.others;
+    }
 
-pub returns-in_default-clause-others : goal.returns-in_default-clause-others
-returns-in_default-clause-others c =
-    not_begun_part c.args.key c.args.blocks.now c.partition_point.result
-    (IsPartitionPoint-from_clause (λ block. leb block.first c.args.key) c.args.blocks.now c.partition_point.result c.partition_point.ensures.partitioned (firsts_parted c.args.key c.args.blocks.now c.requires.sound c.requires.ascend) (λ a r f h. search rules))
+pub loop-low-preserved : goal.loop-low-preserved
+loop-low-preserved c =
+    let middle : ℕ = c.inside-middle.result in
+    let blocks = c.args.blocks.now in
+    let lt : middle < length blocks = omega (arith, c.inside-middle.ensures.to, c.loop-low.invariant.within) in
+    record {
+      order = omega (arith, c.inside-middle.ensures.from);
+      within = omega (arith, lt);
+      begun = c.loop-low.invariant.begun;
+      others = others_from c.args.key blocks middle _ c.requires.sound c.requires.ascend lt c.if-blocks-middle.false;
+    }
+
+pub returns-clause-others : goal.returns-clause-others
+returns-clause-others c = subst (λ n. AllByRecursion (λ block. c.args.key < block.first) (drop n c.args.blocks.now)) (omega (arith, c.loop-low-test.false, c.loop-low.invariant.order)) c.loop-low.invariant.others
