@@ -1,5 +1,4 @@
-//! Tests with ample memory of the public calls of `script_reader`, `feed_reader`, `update_text`, `run_output`, `command_words`, `made_run` and
-//! `plain_evaluator`, and of whether a plan of `tick_model` is lawful and fits.
+//! Tests with ample memory of the public calls of `script_reader`, `feed_reader`, `update_text`, `run_output`, `command_words` and `made_run`.
 
 #![tactic(auto)]
 
@@ -7,8 +6,6 @@
 mod command_words_calls;
 #[cfg(test)]
 mod feed_reader_calls;
-#[cfg(test)]
-mod lawful_plans;
 #[cfg(test)]
 mod made_run_calls;
 #[cfg(test)]

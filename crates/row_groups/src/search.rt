@@ -7,15 +7,13 @@ ghost use Rattle.row_groups.specs.Slots.{AreKnown, is_before, IsParted};
 
 use crate::place::{GroupRow, SearchKey};
 use chunk_list::{ChunkPosition as Spot, Chunks};
+use row_handles::{inside, likely_place};
 
 /// Among fewer rows or chunks a place is looked for from the middle on.
 const FEW: usize = 16;
 
 /// So far from the likely place the second look goes.
 const NEAR: usize = 3;
-
-/// Of a span that is not smaller the upper bits are enough to guess by, and no product with a count is too large.
-const WIDE: u64 = 1 << 40;
 
 /// By what a row stands evenly between others: where there are several `at`, by these.
 fn rank(at: i64) -> u64 {
@@ -24,7 +22,7 @@ fn rank(at: i64) -> u64 {
 
 /// Where a place is likely to be among so many rows or chunks: where it would be if rows stood evenly between `lower`, the first
 /// row, and `upper`, the last or the one behind it, by `at`, or by key where these two have one `at`. Among few it is the middle.
-fn likely_place(lower: &GroupRow, upper: &GroupRow, count: usize, place: &SearchKey<'_>) -> usize
+fn likely_among(lower: &GroupRow, upper: &GroupRow, count: usize, place: &SearchKey<'_>) -> usize
     requires lower { IsSome (key_with lower.now.handle place.now.handles.now) }
     requires upper { IsSome (key_with upper.now.handle place.now.handles.now) }
 {
@@ -37,27 +35,7 @@ fn likely_place(lower: &GroupRow, upper: &GroupRow, count: usize, place: &Search
     } else {
         (rank(lower.at), rank(upper.at), rank(place.at))
     };
-    let span = most.saturating_sub(least);
-    let part = own.saturating_sub(least).min(span);
-    let (part, span) = if span < WIDE {
-        (part, span)
-    } else {
-        (part >> 24, span >> 24)
-    };
-    (part.saturating_mul(count as u64) / span.saturating_add(1)) as usize
-}
-
-/// A place to look at between two others: the guessed one, or the middle where that is not between them.
-fn inside(guess: usize, low: usize, high: usize) -> usize
-    requires { low < high }
-    ensures from { low ≤ result }
-    ensures to { result < high }
-{
-    if low <= guess && guess < high {
-        guess
-    } else {
-        low + (high - low) / 2
-    }
+    likely_place(least, most, own, count)
 }
 
 /// How many rows of a chunk stand before a place. It is looked for near the likely place, and farther from it by growing steps.
@@ -71,7 +49,7 @@ fn rows_before(rows: &[GroupRow], upper: &GroupRow, place: &SearchKey<'_>) -> us
     ensures before { AllByRecursion (λ slot. is_before place.now.handles.now place.now.at place.now.key slot ≡ true) (take result rows.now) }
     ensures others { AllByRecursion (λ slot. is_before place.now.handles.now place.now.at place.now.key slot ≡ false) (drop result rows.now) }
 {
-    let mut guess = likely_place(&rows[0], upper, rows.len(), place);
+    let mut guess = likely_among(&rows[0], upper, rows.len(), place);
     let mut step = NEAR;
     let mut low = 0;
     let mut high = rows.len();
@@ -103,7 +81,7 @@ fn chunk_before(chunks: &Chunks<GroupRow>, place: &SearchKey<'_>) -> usize
     let mut high = chunks.len() - 1;
     let end = chunks.chunk(high);
     let upper = &end[end.len() - 1];
-    let mut guess = likely_place(&chunks.chunk(0)[0], upper, chunks.len(), place);
+    let mut guess = likely_among(&chunks.chunk(0)[0], upper, chunks.len(), place);
     let mut step = NEAR;
     while low < high {
         let middle = inside(guess, low, high);

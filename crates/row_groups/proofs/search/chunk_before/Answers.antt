@@ -6,12 +6,12 @@ use Rattle.row_groups.proofs.search.chunk_before.Goals as goal
 same_first : (test : GroupRow → Bool) (passes : Bool) (rows others : List GroupRow) (d : GroupRow) → rows ≡ others → test (get_or rows 0 d) ≡ passes → test (get_or others 0 d) ≡ passes
 same_first test passes rows others d e is = subst (λ slots. test (get_or slots 0 d) ≡ passes) e is
 
-pub likely_place-guess-requires-clause-lower : goal.likely_place-guess-requires-clause-lower
-likely_place-guess-requires-clause-lower c =
+pub likely_among-guess-requires-clause-lower : goal.likely_among-guess-requires-clause-lower
+likely_among-guess-requires-clause-lower c =
     row_known c.args.place.now.handles.now c.args.chunks.now 0 0 c.chunk.result.now _ c.requires.some c.chunk.ensures.some c.requires.known c.chunk.ensures.items
 
-pub likely_place-guess-requires-clause-upper : goal.likely_place-guess-requires-clause-upper
-likely_place-guess-requires-clause-upper c =
+pub likely_among-guess-requires-clause-upper : goal.likely_among-guess-requires-clause-upper
+likely_among-guess-requires-clause-upper c =
     row_known c.args.place.now.handles.now c.args.chunks.now (c.len-high.result - 1) (length c.chunk-end.result.now - 1) c.chunk-end.result.now _ (omega (arith, c.requires.some, c.len-high.ensures)) (omega (arith, c.chunk-end.ensures.some)) c.requires.known c.chunk-end.ensures.items
 
 pub is_after-requires : goal.is_after-requires
