@@ -1,9 +1,7 @@
-//! Tests with ample memory of the public calls of `script_reader`, `feed_reader`, `update_text`, `run_output`, `command_words` and `made_run`.
+//! Tests with ample memory of the public calls of `script_reader`, `feed_reader`, `update_text`, `run_output` and `made_run`.
 
 #![tactic(auto)]
 
-#[cfg(test)]
-mod command_words_calls;
 #[cfg(test)]
 mod feed_reader_calls;
 #[cfg(test)]

@@ -3,7 +3,7 @@ use Rattle.std.proofs.Common.{◌≡◌, ◌≢◌, refl, ap, ap₂, sym, ◌∙
 use Rattle.std.{specs.List.AllZip, proofs.lemmas.List.get_or_at, proofs.lemmas.List.Elements.{AllZip-get_or, length_all_zip}, proofs.lemmas.Option.same_Some}
 use Rattle.key_lists.specs.Keys.{is_among}
 use Rattle.row_handles.specs.Entries.{handle_under, left_rows}
-use Rattle.row_groups.{specs.declared.index.GroupIndex.GroupIndex, specs.declared.lists.Lists.Lists, specs.declared.table.GroupMember.GroupMember, specs.Members.{IsNumberUnder, IsRegrouped, Member, member_under, with_member}, specs.Rows.{AreNumbered, Becomes, IsKept, at_in, cells_in, cells_with, kept_in, members_of, rows_of, slots_numbered, slots_under}, specs.Slots.{IsGroup, handle_from, slots_without}, specs.Indexes.{IsIndex, grouped_of, numbered_of}, proofs.Keys.{some_of, under_has}, proofs.Groupings.{there_under, under_same}, proofs.Indexed.{AreGone, group_there, grouped_same, index_left, kept_of, members_removed, none_gone, row_there, some_cells, step_less}, proofs.Named.{keeps_all, name_is, part_of}}
+use Rattle.row_groups.{specs.declared.index.GroupIndex.GroupIndex, specs.declared.lists.Lists.Lists, specs.declared.table.GroupMember.GroupMember, specs.Members.{IsNumberUnder, IsRegrouped, Member, member_under, with_member}, specs.Kept.{at_in, kept_in}, specs.Rows.{AreNumbered, Becomes, IsKept, cells_in, cells_with, members_of, rows_of, slots_numbered, slots_under}, specs.Slots.{IsGroup, handle_from, slots_without}, specs.Indexes.{IsIndex, grouped_of, numbered_of}, proofs.Keys.{some_of, under_has}, proofs.Groupings.{there_under, under_same}, proofs.Indexed.{AreGone, group_there, grouped_same, index_left, kept_of, members_removed, none_gone, row_there, some_cells, step_less}, proofs.Named.{keeps_all, name_is, part_of}}
 
 -- two lists that are walked together: the item at the place of the next one
 module _ (R : ℕ → ℕ → Type 0) (keys yielded others numbers : List ℕ) (key place : ℕ) (next : keys ≡ yielded ++ key ∷ others) (count : place ≡ length yielded) (all : AllZip R keys numbers) where
@@ -28,19 +28,19 @@ module _ (gone : List ℕ) (key : ℕ) (kept : GroupMember) (old index : GroupIn
   pub departs_there : IsSome (cells_with kept.number index.lists.groups)
   departs_there = subst (λ (kept : GroupMember). IsSome (cells_with kept.number index.lists.groups)) d.kept_is (kept_of gone key d.handle index d.so_far.holds d.new d.here).there
 
-  pub departs_group : IsGroup index.handles (slots_numbered kept.number index.lists.groups)
-  departs_group = subst (λ (kept : GroupMember). IsGroup index.handles (slots_numbered kept.number index.lists.groups)) d.kept_is (group_there gone key d.handle index d.so_far.holds d.new d.here)
+  pub departs_group : IsGroup index.handles index.table (slots_numbered kept.number index.lists.groups)
+  departs_group = subst (λ (kept : GroupMember). IsGroup index.handles index.table (slots_numbered kept.number index.lists.groups)) d.kept_is (group_there gone key d.handle index d.so_far.holds d.new d.here)
 
-  pub departs_handle : (place : ℤ) → place ≡ kept.at → handle_from index.handles place key (slots_numbered kept.number index.lists.groups) ≡ Some d.handle
+  pub departs_handle : (place : ℤ) → place ≡ kept.at → handle_from index.handles index.table place key (slots_numbered kept.number index.lists.groups) ≡ Some d.handle
   departs_handle place same =
-      ap (λ (a : ℤ). handle_from index.handles a key (slots_numbered kept.number index.lists.groups)) same
-      ∙ ap (λ (kept : GroupMember). handle_from index.handles kept.at key (slots_numbered kept.number index.lists.groups)) (sym d.kept_is)
+      ap (λ (a : ℤ). handle_from index.handles index.table a key (slots_numbered kept.number index.lists.groups)) same
+      ∙ ap (λ (kept : GroupMember). handle_from index.handles index.table kept.at key (slots_numbered kept.number index.lists.groups)) (sym d.kept_is)
       ∙ row_there gone key d.handle index d.so_far.holds d.new d.here
 
   -- its group loses it
   pub departed : (lists : Lists) (place : ℤ) → place ≡ kept.at
-      → ((cells : List ℤ) → cells_with kept.number index.lists.groups ≡ Some cells → Becomes cells (slots_without index.handles place key (slots_under cells index.lists)) index.lists lists)
-      → (slots_without index.handles place key (slots_numbered kept.number index.lists.groups) ≢ [] → cells_with kept.number lists.groups ≡ cells_with kept.number index.lists.groups)
+      → ((cells : List ℤ) → cells_with kept.number index.lists.groups ≡ Some cells → Becomes cells (slots_without index.handles index.table place key (slots_under cells index.lists)) index.lists lists)
+      → (slots_without index.handles index.table place key (slots_numbered kept.number index.lists.groups) ≢ [] → cells_with kept.number lists.groups ≡ cells_with kept.number index.lists.groups)
       → ((other : ℕ) → other ≢ kept.number → cells_with other lists.groups ≡ cells_with other index.lists.groups)
       → ((other : ℕ) (cells : List ℤ) → cells_with other lists.groups ≡ Some cells → cells_with other index.lists.groups ≡ Some cells) → AreNumbered lists → AreGone (gone ++ key ∷ []) old (record index { lists = lists })
   departed lists place same becomes stays others fewer numbered =
@@ -50,9 +50,9 @@ module _ (gone : List ℕ) (key : ℕ) (kept : GroupMember) (old index : GroupIn
       let own = subst (λ (kept : GroupMember). cells_with kept.number groups ≡ Some cells) d.kept_is (some_cells (cells_with (kept_in index.table d.handle).number groups) (kept_of gone key d.handle index d.so_far.holds d.new d.here).there) in
       step_less gone key d.handle old index lists d.so_far d.new (record {
         here = d.here;
-        becomes = subst (λ (a : ℤ). Becomes cells (slots_without index.handles a key (slots_under cells index.lists)) index.lists lists) (same ∙ ap (λ (kept : GroupMember). kept.at) back) (becomes cells own);
-        stays = subst (λ (kept : GroupMember). slots_without index.handles kept.at key (slots_numbered kept.number groups) ≢ [] → cells_with kept.number lists.groups ≡ cells_with kept.number groups) back
-            (subst (λ (a : ℤ). slots_without index.handles a key (slots_numbered kept.number groups) ≢ [] → cells_with kept.number lists.groups ≡ cells_with kept.number groups) same stays);
+        becomes = subst (λ (a : ℤ). Becomes cells (slots_without index.handles index.table a key (slots_under cells index.lists)) index.lists lists) (same ∙ ap (λ (kept : GroupMember). kept.at) back) (becomes cells own);
+        stays = subst (λ (kept : GroupMember). slots_without index.handles index.table kept.at key (slots_numbered kept.number groups) ≢ [] → cells_with kept.number lists.groups ≡ cells_with kept.number groups) back
+            (subst (λ (a : ℤ). slots_without index.handles index.table a key (slots_numbered kept.number groups) ≢ [] → cells_with kept.number lists.groups ≡ cells_with kept.number groups) same stays);
         others = subst (λ (kept : GroupMember). (other : ℕ) → other ≢ kept.number → cells_with other lists.groups ≡ cells_with other groups) back others;
         fewer = fewer;
         numbered = numbered;

@@ -4,7 +4,7 @@ use Rattle.std.{specs.List.AllByRecursion, proofs.lemmas.Bool.{cases_eq, eq-eqb}
 use Rattle.key_lists.{specs.Keys.is_among, proofs.Every.{every, every_both, every_weaker, every_unmapped, every-filter, every-map, filter-map, filter_passes}}
 use Rattle.tick_model.{specs.Tables.same_cells, specs.declared.update.ShiftRange.ShiftRange, specs.Shifts.{moved, as_key}, specs.Rules.shift_fault}
 use Rattle.row_handles.{specs.Entries.{AreHandled, Entry, entry_of, handle_under, key_with, keys_of, left_rows, moved_row, moved_rows, with_row}, proofs.EntryLists.ascend-filter, proofs.Laws.{handle_under-left, key_under_handle}}
-use Rattle.row_groups.{specs.declared.table.Table.Table, specs.declared.index.GroupIndex.GroupIndex, specs.declared.lists.Lists.Lists, specs.declared.place.GroupRow.GroupRow, specs.Members.{Grouped, Member, left_members, member_of, moved_members, with_member}, specs.Slots.{IsGroup, handle_from, slots_with, slots_without}, specs.Rows.{AreListed, AreNumbered, Becomes, ByNumber, IsKept, IsSame, Row, at_in, cells_in, group_rows, members_of, row_of, row_placed, rows_by_at, rows_of, slot_of, slots_numbered, slots_under, cells_with, kept_in}, specs.Indexes.{Holds, IsIndex}, proofs.Ranks.with_row as row_among, proofs.Keys.{ascending, every-with_row, handled_left, handled_moved, handled_with, known_all, left_again, left_missing, left_more, left_none, restored, under_has}, proofs.Listed.under_number, proofs.Groupings.{listed_from, listed_group, listed_with, listed_without, members_left, members_moved, members_with, rows_ascend, rows_known, rows_same, rows_with}}
+use Rattle.row_groups.{specs.declared.table.Table.Table, specs.declared.index.GroupIndex.GroupIndex, specs.declared.lists.Lists.Lists, specs.declared.place.GroupRow.GroupRow, specs.Members.{Grouped, Member, left_members, member_of, moved_members, with_member}, specs.Slots.{IsGroup, handle_from, slots_with, slots_without}, specs.Kept.{at_in, kept_in}, specs.Rows.{AreListed, AreNumbered, Becomes, ByNumber, IsKept, IsSame, Row, cells_in, group_rows, members_of, row_of, row_placed, rows_by_at, rows_of, slot_of, slots_numbered, slots_under, cells_with}, specs.Indexes.{Holds, IsIndex}, proofs.Ranks.with_row as row_among, proofs.Keys.{ascending, every-with_row, handled_left, handled_moved, handled_with, known_all, left_again, left_missing, left_more, left_none, restored, under_has}, proofs.Listed.under_number, proofs.Groupings.{listed_from, listed_group, listed_with, listed_without, members_left, members_moved, members_with, rows_ascend, rows_known, rows_same, rows_with}}
 
 -- rows under other keys
 abbrev move : (ℕ → ℕ) → Row → Row
@@ -92,7 +92,7 @@ module _ (old : Table) (groups : ByNumber) (new : Table) (others : ByNumber) whe
       }) kept same
 
 -- what is kept of the others of a handle stays where that under it changes
-pub kept_on : (width handle : ℕ) (old new : Table) (groups others : ByNumber) → ((other : ℕ) → other ≢ handle → other < length old.rows.items → (other < length new.rows.items) × (kept_in new other ≡ kept_in old other)) → ((n : ℕ) → IsSome (cells_with n groups) → cells_with n others ≡ cells_with n groups) → (other : ℕ) → other ≢ handle → IsKept width old groups other → IsSame old groups new others other
+pub kept_on : (width handle : ℕ) (old new : Table) (groups others : ByNumber) → ((other : ℕ) → other ≢ handle → other < length old.numbers.items → (other < length new.numbers.items) × (kept_in new other ≡ kept_in old other)) → ((n : ℕ) → IsSome (cells_with n groups) → cells_with n others ≡ cells_with n groups) → (other : ℕ) → other ≢ handle → IsKept width old groups other → IsSame old groups new others other
 kept_on width handle old new groups others stays cells other apart is =
     let kept = stays other apart is.within in
     record {
@@ -102,7 +102,7 @@ kept_on width handle old new groups others stays cells other apart is =
     }
 
 -- what is known in an index of some of the rows
-pub holds_group : (gone : List ℕ) (index : GroupIndex) (cells : List ℤ) → Holds (left_rows gone index.handles) index → IsGroup index.handles (slots_under cells index.lists)
+pub holds_group : (gone : List ℕ) (index : GroupIndex) (cells : List ℤ) → Holds (left_rows gone index.handles) index → IsGroup index.handles index.table (slots_under cells index.lists)
 holds_group gone index cells is =
     let p = λ (x : Entry). not (is_among x.key gone) in
     listed_group index.handles index.table index.lists.groups (left_rows gone index.handles) index.lists cells is.listed
@@ -132,7 +132,7 @@ holds_as xs index table lists is same listed numbered = record {
 pub record Enters (key handle : ℕ) (cells : List ℤ) (at : ℤ) (index : GroupIndex) (table : Table) (lists : Lists) : Type 0 where
   pub others : Holds (left_rows (key ∷ []) index.handles) index
   pub here : handle_under key index.handles ≡ Some handle
-  pub within : handle < length table.rows.items
+  pub within : handle < length table.numbers.items
   pub cells_is : cells_with (kept_in table handle).number lists.groups ≡ Some cells
   pub at_is : at_in table handle ≡ at
   pub width : length cells ≡ index.width
@@ -152,7 +152,7 @@ rows_entered key handle cells at index table lists e =
     ∙ ap (λ (cs : Option (List ℤ)). row_among (entered key handle (unwrap_or cs []) (at_in table handle)) rows) e.cells_is
     ∙ ap (λ a. row_among (entered key handle cells a) rows) e.at_is
 
-pub index_entered : (key handle : ℕ) (cells : List ℤ) (at : ℤ) (index : GroupIndex) (table : Table) (lists : Lists) → Enters key handle cells at index table lists → Becomes cells (slots_with index.handles at key (slot_of (entered key handle cells at)) (slots_under cells index.lists)) index.lists lists → IsIndex (record index { table = table; lists = lists })
+pub index_entered : (key handle : ℕ) (cells : List ℤ) (at : ℤ) (index : GroupIndex) (table : Table) (lists : Lists) → Enters key handle cells at index table lists → Becomes cells (slots_with index.handles index.table at key (slot_of (entered key handle cells at)) (slots_under cells index.lists)) index.lists lists → IsIndex (record index { table = table; lists = lists })
 index_entered key handle cells at index table lists e becomes =
     let rest = left_rows (key ∷ []) index.handles in
     let p = λ (x : Entry). not (is_among x.key (key ∷ [])) in
@@ -165,7 +165,7 @@ index_entered key handle cells at index table lists e becomes =
         width = ap (λ (cs : Option (List ℤ)). length (unwrap_or cs [])) e.cells_is ∙ e.width;
       }) (kept_same index.table index.lists.groups table lists.groups index.width rest e.others.kept e.same));
       listed = subst (λ rs. AreListed rs lists) (sym (rows_entered key handle cells at index table lists e))
-          (listed_with index.handles (entered key handle cells at) (rows_of index.table index.lists.groups rest) index.lists lists
+          (listed_with index.handles index.table (entered key handle cells at) (rows_of index.table index.lists.groups rest) index.lists lists
           (rows_known index.handles index.table index.lists.groups rest (every-filter (λ x. key_with x.handle index.handles ≡ Some x.key) p index.handles (known_all index.handles e.others.handled.handles)))
           (rows_ascend index.table index.lists.groups rest (ascend-filter p index.handles (ascending index.handles e.others.handled)))
           (every-map (λ other. other.member.key ≢ key) (row_of index.table index.lists.groups) rest (every_weaker (λ x. p x ≡ true) (λ x. x.key ≢ key) rest (λ x stays eq. gone_itself key x.key (sym eq) stays) (filter_passes p index.handles)))
@@ -256,8 +256,8 @@ module _ (table : Table) (old new : Lists) (number : ℕ) (cells : List ℤ) (ow
 -- a row that leaves its group
 pub record Leaves (key handle : ℕ) (index : GroupIndex) (lists : Lists) : Type 0 where
   pub here : handle_under key index.handles ≡ Some handle
-  pub becomes : Becomes (cells_in index.table index.lists.groups handle) (slots_without index.handles (at_in index.table handle) key (slots_under (cells_in index.table index.lists.groups handle) index.lists)) index.lists lists
-  pub stays : slots_without index.handles (at_in index.table handle) key (slots_numbered (kept_in index.table handle).number index.lists.groups) ≢ [] → cells_with (kept_in index.table handle).number lists.groups ≡ cells_with (kept_in index.table handle).number index.lists.groups
+  pub becomes : Becomes (cells_in index.table index.lists.groups handle) (slots_without index.handles index.table (at_in index.table handle) key (slots_under (cells_in index.table index.lists.groups handle) index.lists)) index.lists lists
+  pub stays : slots_without index.handles index.table (at_in index.table handle) key (slots_numbered (kept_in index.table handle).number index.lists.groups) ≢ [] → cells_with (kept_in index.table handle).number lists.groups ≡ cells_with (kept_in index.table handle).number index.lists.groups
   pub others : (other : ℕ) → other ≢ (kept_in index.table handle).number → cells_with other lists.groups ≡ cells_with other index.lists.groups
   pub fewer : (other : ℕ) (cells : List ℤ) → cells_with other lists.groups ≡ Some cells → cells_with other index.lists.groups ≡ Some cells
   pub numbered : AreNumbered lists
@@ -278,15 +278,15 @@ left_same gone key handle index lists is fresh leaves =
     let p = λ (x : Entry). not (is_among x.key (key ∷ [])) in
     let q = λ (x : Entry). not (is_among x.key gone) in
     let row = row_of table groups (entry_of key handle) in
-    let without = slots_without index.handles (at_in table handle) key in
+    let without = slots_without index.handles index.table (at_in table handle) key in
     let here : handle_under key all ≡ Some handle = still_under gone key index.handles fresh ∙ leaves.here in
     let up = ascend-filter q index.handles (ascending index.handles is.handled) in
     let known = every-filter (λ x. key_with x.handle index.handles ≡ Some x.key) q index.handles (known_all index.handles is.handled.handles) in
     let back : rows_of table groups all ≡ row_among row (rows_of table groups rest) = ap (rows_of table groups) (restored key handle all up here) ∙ rows_with table groups key handle rest in
     let own : cells_with number groups ≡ Some cells = some_cells (cells_with number groups) (under_has (λ x. IsKept index.width table groups x.handle) key handle all is.kept here).there in
     let listed : AreListed (rows_of table groups rest) lists =
-    listed_without index.handles row (rows_of table groups rest) index.lists lists
-    (key_under_handle key handle index.handles is.handled leaves.here)
+    listed_without index.handles index.table row (rows_of table groups rest) index.lists lists
+    (key_under_handle key handle index.handles is.handled leaves.here, refl)
     (rows_known index.handles table groups rest (every-filter (λ x. key_with x.handle index.handles ≡ Some x.key) p all known))
     (rows_ascend table groups rest (ascend-filter p all up))
     (every-map (λ other. other.member.key ≢ key) (row_of table groups) rest (every_weaker (λ x. p x ≡ true) (λ x. x.key ≢ key) rest (λ x stays eq. gone_itself key x.key (sym eq) stays) (filter_passes p all)))
@@ -362,16 +362,16 @@ kept_of gone key handle index is new here =
     under_has (λ x. IsKept index.width index.table index.lists.groups x.handle) key handle (left_rows gone index.handles) is.kept (still_under gone key index.handles new ∙ here)
 
 -- the group of the row of a key
-pub group_there : (gone : List ℕ) (key handle : ℕ) (index : GroupIndex) → Holds (left_rows gone index.handles) index → is_among key gone ≡ false → handle_under key index.handles ≡ Some handle → IsGroup index.handles (slots_numbered (kept_in index.table handle).number index.lists.groups)
+pub group_there : (gone : List ℕ) (key handle : ℕ) (index : GroupIndex) → Holds (left_rows gone index.handles) index → is_among key gone ≡ false → handle_under key index.handles ≡ Some handle → IsGroup index.handles index.table (slots_numbered (kept_in index.table handle).number index.lists.groups)
 group_there gone key handle index is new here =
     let number = (kept_in index.table handle).number in
     let cells = cells_in index.table index.lists.groups handle in
     let own = some_cells (cells_with number index.lists.groups) (kept_of gone key handle index is new here).there in
-    subst (IsGroup index.handles) (under_number cells number index.lists (is.numbered.cells cells number own)) (holds_group gone index cells is)
+    subst (IsGroup index.handles index.table) (under_number cells number index.lists (is.numbered.cells cells number own)) (holds_group gone index cells is)
 
 -- the row of a key at its place in its group
 pub row_there : (gone : List ℕ) (key handle : ℕ) (index : GroupIndex) → Holds (left_rows gone index.handles) index → is_among key gone ≡ false → handle_under key index.handles ≡ Some handle
-    → handle_from index.handles (at_in index.table handle) key (slots_numbered (kept_in index.table handle).number index.lists.groups) ≡ Some handle
+    → handle_from index.handles index.table (at_in index.table handle) key (slots_numbered (kept_in index.table handle).number index.lists.groups) ≡ Some handle
 row_there gone key handle index is new is_here =
     let table = index.table in
     let groups = index.lists.groups in
@@ -386,9 +386,9 @@ row_there gone key handle index is new is_here =
     let known = every-filter (λ x. key_with x.handle index.handles ≡ Some x.key) q index.handles (known_all index.handles is.handled.handles) in
     let back : rows_of table groups all ≡ row_among row (rows_of table groups rest) = ap (rows_of table groups) (restored key handle all up (still_under gone key index.handles new ∙ is_here)) ∙ rows_with table groups key handle rest in
     let own : cells_with number groups ≡ Some cells = some_cells (cells_with number groups) (kept_of gone key handle index is new is_here).there in
-    ap (handle_from index.handles (at_in table handle) key) (sym (under_number cells number index.lists (is.numbered.cells cells number own)))
-    ∙ listed_from index.handles row (rows_of table groups rest) index.lists
-    (key_under_handle key handle index.handles is.handled is_here)
+    ap (handle_from index.handles index.table (at_in table handle) key) (sym (under_number cells number index.lists (is.numbered.cells cells number own)))
+    ∙ listed_from index.handles index.table row (rows_of table groups rest) index.lists
+    (key_under_handle key handle index.handles is.handled is_here, refl)
     (rows_known index.handles table groups rest (every-filter (λ x. key_with x.handle index.handles ≡ Some x.key) p all known))
     (rows_ascend table groups rest (ascend-filter p all up))
     (every-map (λ other. other.member.key ≢ key) (row_of table groups) rest (every_weaker (λ x. p x ≡ true) (λ x. x.key ≢ key) rest (λ x stays eq. gone_itself key x.key (sym eq) stays) (filter_passes p all)))

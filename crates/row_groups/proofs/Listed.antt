@@ -4,7 +4,7 @@ use Rattle.std.{specs.Option.option_map_or, specs.Prelude.slice_get, specs.List.
 use Rattle.slab.{specs.Slab.{get, with_value}, proofs.SlabLemmas.Updates-with_value}
 use Rattle.tick_model.specs.Tables.{same_cells}
 use Rattle.row_handles.specs.Entries.{Entry}
-use Rattle.row_groups.{specs.declared.lists.KeyedRows.KeyedRows, specs.declared.lists.Lists.Lists, specs.declared.place.GroupRow.GroupRow, specs.Slots.{handle_from, is_before, IsParted, slots_with, slots_without}, proofs.Ends.{passed_all, put_last}, specs.Rows.{AreNumbered, Becomes, ByNumber, Leads, cells_with, number_under, slots_numbered, slots_under}, proofs.Leading.{numbered_as, renumbered}, proofs.Parts.unlike}
+use Rattle.row_groups.{specs.declared.lists.KeyedRows.KeyedRows, specs.declared.lists.Lists.Lists, specs.declared.place.GroupRow.GroupRow, specs.declared.table.Table.Table, specs.Slots.{handle_from, is_before, IsParted, slots_with, slots_without}, proofs.Ends.{passed_all, put_last}, specs.Rows.{AreNumbered, Becomes, ByNumber, Leads, cells_with, number_under, slots_numbered, slots_under}, proofs.Leading.{numbered_as, renumbered}, proofs.Parts.unlike}
 
 -- the group with a number changes, which has these cells or is new
 pub record IsChange (cells : List ℤ) (number : ℕ) (old new : Lists) : Type 0 where
@@ -229,11 +229,11 @@ own_short number group lists sound was calm =
     subst (λ (rows : List GroupRow). length rows ≤ 1) (under_number group.cells.items number lists (sound.cells group.cells.items number (with_group number lists.groups group was)) ∙ with_rows number lists.groups group was)
     (sound.alone calm group.cells.items)
 
-pub shorter : (entries : List Entry) (at : ℤ) (key : ℕ) (slots : List GroupRow) → length (slots_without entries at key slots) ≤ length slots
-shorter entries at key [] = omega arith
-shorter entries at key (slot ∷ slots) = by_test (is_before entries at key slot) (shorter entries at key slots)
+pub shorter : (entries : List Entry) (table : Table) (at : ℤ) (key : ℕ) (slots : List GroupRow) → length (slots_without entries table at key slots) ≤ length slots
+shorter entries table at key [] = omega arith
+shorter entries table at key (slot ∷ slots) = by_test (is_before entries table at key slot) (shorter entries table at key slots)
   where
-    by_test : (b : Bool) → length (slots_without entries at key slots) ≤ length slots → length (if b then slot ∷ slots_without entries at key slots else slots) ≤ suc (length slots)
+    by_test : (b : Bool) → length (slots_without entries table at key slots) ≤ length slots → length (if b then slot ∷ slots_without entries table at key slots else slots) ≤ suc (length slots)
     by_test true less = omega (arith, less)
     by_test false less = omega arith
 
@@ -256,49 +256,49 @@ pub same_items : (cells : List ℤ) (number : ℕ) (group : KeyedRows) (groups :
 same_items cells number group groups was own = same_Some group.cells.items cells (sym (with_group number groups group was) ∙ own)
 
 -- a place in a list
-pub placed_with : (entries : List Entry) (at : ℤ) (key : ℕ) (slot : GroupRow) (slots : List GroupRow) (n : ℕ) → n ≤ length slots → AllByRecursion (λ s. is_before entries at key s ≡ true) (take n slots) → AllByRecursion (λ s. is_before entries at key s ≡ false) (drop n slots) → take n slots ++ slot ∷ drop n slots ≡ slots_with entries at key slot slots
-placed_with entries at key slot [] zero le h k = refl
-placed_with entries at key slot [] (suc n) le h k = absurd (omega arith)
-placed_with entries at key slot (s ∷ slots) zero le h k = sym (ap (λ b. if b then s ∷ slots_with entries at key slot slots else slot ∷ s ∷ slots) k.0)
-placed_with entries at key slot (s ∷ slots) (suc n) le h k =
-    ap (λ ss. s ∷ ss) (placed_with entries at key slot slots n (omega arith) h.1 k)
-    ∙ sym (ap (λ b. if b then s ∷ slots_with entries at key slot slots else slot ∷ s ∷ slots) h.0)
+pub placed_with : (entries : List Entry) (table : Table) (at : ℤ) (key : ℕ) (slot : GroupRow) (slots : List GroupRow) (n : ℕ) → n ≤ length slots → AllByRecursion (λ s. is_before entries table at key s ≡ true) (take n slots) → AllByRecursion (λ s. is_before entries table at key s ≡ false) (drop n slots) → take n slots ++ slot ∷ drop n slots ≡ slots_with entries table at key slot slots
+placed_with entries table at key slot [] zero le h k = refl
+placed_with entries table at key slot [] (suc n) le h k = absurd (omega arith)
+placed_with entries table at key slot (s ∷ slots) zero le h k = sym (ap (λ b. if b then s ∷ slots_with entries table at key slot slots else slot ∷ s ∷ slots) k.0)
+placed_with entries table at key slot (s ∷ slots) (suc n) le h k =
+    ap (λ ss. s ∷ ss) (placed_with entries table at key slot slots n (omega arith) h.1 k)
+    ∙ sym (ap (λ b. if b then s ∷ slots_with entries table at key slot slots else slot ∷ s ∷ slots) h.0)
 
-pub placed_without : (entries : List Entry) (at : ℤ) (key : ℕ) (slots : List GroupRow) (n : ℕ) → n < length slots → AllByRecursion (λ s. is_before entries at key s ≡ true) (take n slots) → AllByRecursion (λ s. is_before entries at key s ≡ false) (drop n slots) → take n slots ++ drop (suc n) slots ≡ slots_without entries at key slots
-placed_without entries at key [] n lt h k = absurd (omega arith)
-placed_without entries at key (s ∷ slots) zero lt h k = sym (ap (λ b. if b then s ∷ slots_without entries at key slots else slots) k.0)
-placed_without entries at key (s ∷ slots) (suc n) lt h k =
-    ap (λ ss. s ∷ ss) (placed_without entries at key slots n (omega arith) h.1 k)
-    ∙ sym (ap (λ b. if b then s ∷ slots_without entries at key slots else slots) h.0)
+pub placed_without : (entries : List Entry) (table : Table) (at : ℤ) (key : ℕ) (slots : List GroupRow) (n : ℕ) → n < length slots → AllByRecursion (λ s. is_before entries table at key s ≡ true) (take n slots) → AllByRecursion (λ s. is_before entries table at key s ≡ false) (drop n slots) → take n slots ++ drop (suc n) slots ≡ slots_without entries table at key slots
+placed_without entries table at key [] n lt h k = absurd (omega arith)
+placed_without entries table at key (s ∷ slots) zero lt h k = sym (ap (λ b. if b then s ∷ slots_without entries table at key slots else slots) k.0)
+placed_without entries table at key (s ∷ slots) (suc n) lt h k =
+    ap (λ ss. s ∷ ss) (placed_without entries table at key slots n (omega arith) h.1 k)
+    ∙ sym (ap (λ b. if b then s ∷ slots_without entries table at key slots else slots) h.0)
 
 -- a row behind all others
-pub placed_alone : (entries : List Entry) (at : ℤ) (key : ℕ) (slot : GroupRow) (slots : List GroupRow) → length slots ≡ 0 → slots ++ slot ∷ [] ≡ slots_with entries at key slot slots
-placed_alone entries at key slot [] none = refl
-placed_alone entries at key slot (s ∷ slots) none = absurd (omega arith)
+pub placed_alone : (entries : List Entry) (table : Table) (at : ℤ) (key : ℕ) (slot : GroupRow) (slots : List GroupRow) → length slots ≡ 0 → slots ++ slot ∷ [] ≡ slots_with entries table at key slot slots
+placed_alone entries table at key slot [] none = refl
+placed_alone entries table at key slot (s ∷ slots) none = absurd (omega arith)
 
-pub placed_last : (entries : List Entry) (at : ℤ) (key : ℕ) (slot last : GroupRow) (slots : List GroupRow) → slice_get slots (length slots - 1) ≡ Some last → IsParted (is_before entries at key) slots → is_before entries at key last ≡ true → slots ++ slot ∷ [] ≡ slots_with entries at key slot slots
-placed_last entries at key slot last slots is parted own =
+pub placed_last : (entries : List Entry) (table : Table) (at : ℤ) (key : ℕ) (slot last : GroupRow) (slots : List GroupRow) → slice_get slots (length slots - 1) ≡ Some last → IsParted (is_before entries table at key) slots → is_before entries table at key last ≡ true → slots ++ slot ∷ [] ≡ slots_with entries table at key slot slots
+placed_last entries table at key slot last slots is parted own =
     put_last slots (length slots) slot refl
-    ∙ placed_with entries at key slot slots (length slots) (omega arith) (passed_all (is_before entries at key) slots (length slots) last refl is parted own)
-    (subst (AllByRecursion (λ s. is_before entries at key s ≡ false)) (sym (drop_all (length slots) slots (omega arith))) tt)
+    ∙ placed_with entries table at key slot slots (length slots) (omega arith) (passed_all (is_before entries table at key) slots (length slots) last refl is parted own)
+    (subst (AllByRecursion (λ s. is_before entries table at key s ≡ false)) (sym (drop_all (length slots) slots (omega arith))) tt)
 
-pub placed_from : (entries : List Entry) (at : ℤ) (key : ℕ) (slots : List GroupRow) (n : ℕ) (slot : GroupRow) → slice_get slots n ≡ Some slot → AllByRecursion (λ s. is_before entries at key s ≡ true) (take n slots) → AllByRecursion (λ s. is_before entries at key s ≡ false) (drop n slots) → Some slot.handle ≡ handle_from entries at key slots
-placed_from entries at key [] n slot e h k = absurd (none-some slot e)
-placed_from entries at key (s ∷ slots) zero slot e h k =
-    ap (λ (row : GroupRow). Some row.handle) (sym (same_Some s slot e)) ∙ sym (ap (λ b. if b then handle_from entries at key slots else Some s.handle) k.0)
-placed_from entries at key (s ∷ slots) (suc n) slot e h k =
-    placed_from entries at key slots n slot e h.1 k ∙ sym (ap (λ b. if b then handle_from entries at key slots else Some s.handle) h.0)
+pub placed_from : (entries : List Entry) (table : Table) (at : ℤ) (key : ℕ) (slots : List GroupRow) (n : ℕ) (slot : GroupRow) → slice_get slots n ≡ Some slot → AllByRecursion (λ s. is_before entries table at key s ≡ true) (take n slots) → AllByRecursion (λ s. is_before entries table at key s ≡ false) (drop n slots) → Some slot.handle ≡ handle_from entries table at key slots
+placed_from entries table at key [] n slot e h k = absurd (none-some slot e)
+placed_from entries table at key (s ∷ slots) zero slot e h k =
+    ap (λ (row : GroupRow). Some row.handle) (sym (same_Some s slot e)) ∙ sym (ap (λ b. if b then handle_from entries table at key slots else Some s.handle) k.0)
+placed_from entries table at key (s ∷ slots) (suc n) slot e h k =
+    placed_from entries table at key slots n slot e h.1 k ∙ sym (ap (λ b. if b then handle_from entries table at key slots else Some s.handle) h.0)
 
 -- where all rows stand before the place, none is there
-pub none_from : (entries : List Entry) (at : ℤ) (key : ℕ) (slots : List GroupRow) (n : ℕ) → length slots ≤ n → AllByRecursion (λ s. is_before entries at key s ≡ true) (take n slots) → None ≡ handle_from entries at key slots
-none_from entries at key [] n le h = refl
-none_from entries at key (s ∷ slots) zero le h = absurd (omega arith)
-none_from entries at key (s ∷ slots) (suc n) le h =
-    none_from entries at key slots n (omega arith) h.1 ∙ sym (ap (λ b. if b then handle_from entries at key slots else Some s.handle) h.0)
+pub none_from : (entries : List Entry) (table : Table) (at : ℤ) (key : ℕ) (slots : List GroupRow) (n : ℕ) → length slots ≤ n → AllByRecursion (λ s. is_before entries table at key s ≡ true) (take n slots) → None ≡ handle_from entries table at key slots
+none_from entries table at key [] n le h = refl
+none_from entries table at key (s ∷ slots) zero le h = absurd (omega arith)
+none_from entries table at key (s ∷ slots) (suc n) le h =
+    none_from entries table at key slots n (omega arith) h.1 ∙ sym (ap (λ b. if b then handle_from entries table at key slots else Some s.handle) h.0)
 
-pub none_there : (entries : List Entry) (at : ℤ) (key : ℕ) (slots : List GroupRow) (n : ℕ) → length slots ≤ n → AllByRecursion (λ s. is_before entries at key s ≡ true) (take n slots) → slots ≡ slots_without entries at key slots
-none_there entries at key [] n le h = refl
-none_there entries at key (s ∷ slots) zero le h = absurd (omega arith)
-none_there entries at key (s ∷ slots) (suc n) le h =
-    ap (λ ss. s ∷ ss) (none_there entries at key slots n (omega arith) h.1)
-    ∙ sym (ap (λ b. if b then s ∷ slots_without entries at key slots else slots) h.0)
+pub none_there : (entries : List Entry) (table : Table) (at : ℤ) (key : ℕ) (slots : List GroupRow) (n : ℕ) → length slots ≤ n → AllByRecursion (λ s. is_before entries table at key s ≡ true) (take n slots) → slots ≡ slots_without entries table at key slots
+none_there entries table at key [] n le h = refl
+none_there entries table at key (s ∷ slots) zero le h = absurd (omega arith)
+none_there entries table at key (s ∷ slots) (suc n) le h =
+    ap (λ ss. s ∷ ss) (none_there entries table at key slots n (omega arith) h.1)
+    ∙ sym (ap (λ b. if b then s ∷ slots_without entries table at key slots else slots) h.0)

@@ -76,13 +76,13 @@ module _ (index : GroupIndex) (is : IsIndex index) where
     own_slots : group.rows ≡ slots_under group.cells.items index.lists
     own_slots = sym (with_rows n index.lists.groups group there) ∙ numbered_under group.cells.items n index.lists is.numbered (with_group n index.lists.groups group there)
 
-    pub is_group : IsGroup index.handles group.rows
+    pub is_group : IsGroup index.handles index.table group.rows
     is_group =
-        subst (IsGroup index.handles) (sym own_slots)
+        subst (IsGroup index.handles index.table) (sym own_slots)
         (listed_group index.handles index.table index.lists.groups index.handles index.lists group.cells.items is.listed (known_all index.handles is.handled.handles) (ascending index.handles is.handled) is.handled)
 
-    pub members_with : map (member_at index.handles group.cells.items) group.rows ≡ group_of group.cells.items (numbered_of index).members
-    members_with = ap (map (member_at index.handles group.cells.items)) own_slots ∙ listed_members index.table index.lists.groups index.handles index.lists group.cells.items is.listed is.handled
+    pub members_with : map (member_at index.handles index.table group.cells.items) group.rows ≡ group_of group.cells.items (numbered_of index).members
+    members_with = ap (map (member_at index.handles index.table group.cells.items)) own_slots ∙ listed_members index.table index.lists.groups index.handles index.lists group.cells.items is.listed is.handled
 
 -- an index whose groups keep their numbers in another
 pub part_of : (part whole : GroupIndex) → IsIndex part → IsIndex whole → ((n : ℕ) (cells : List ℤ) → cells_with n part.lists.groups ≡ Some cells → cells_with n whole.lists.groups ≡ Some cells) → IsPart (numbered_of part) (numbered_of whole)

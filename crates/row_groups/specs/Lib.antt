@@ -1,4 +1,5 @@
 pub mod Members
+pub mod Kept
 pub mod Slots
 pub mod Rows
 pub mod Indexes

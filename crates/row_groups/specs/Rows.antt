@@ -1,5 +1,4 @@
--- What is kept of each row by its handle, and the rows of a group in order.
---     kept_in table handle      what is kept under a handle
+-- What is kept of the rows, and the rows of a group in order.
 --     cells_with number groups, slots_numbered number groups      the key cells of the group with a number, and its list
 --     number_under cells numbers      the number of the group with these key cells
 --     place_in cells by_cell, number_below above      the place of some cells in the list of numbers, and the number for which a number stands there
@@ -10,16 +9,10 @@ use Rattle.std.{specs.Prelude.{ℕ, ◌-◌, ◌<◌, ◌≤◌, ◌≡◌, ◌=
 use Rattle.slab.specs.Slab.{Slab, get}
 use Rattle.tick_model.specs.Tables.{same_cells}
 use Rattle.row_handles.specs.Entries.{Entry}
-use Rattle.row_groups.{specs.declared.lists.KeyedRows.KeyedRows, specs.declared.lists.Lists.Lists, specs.declared.numbers.GroupNumbers.GroupNumbers, specs.declared.place.GroupRow.GroupRow, specs.declared.table.GroupMember.GroupMember, specs.declared.table.Table.Table, specs.Members.{Member, member_of}}
+use Rattle.row_groups.{specs.declared.lists.KeyedRows.KeyedRows, specs.declared.lists.Lists.Lists, specs.declared.numbers.GroupNumbers.GroupNumbers, specs.declared.place.GroupRow.GroupRow, specs.declared.table.Table.Table, specs.Kept.{at_in, kept_in}, specs.Members.{Member, member_of}}
 
 abbrev pub ByNumber : Type 0
 ByNumber = Slab KeyedRows
-
-abbrev pub kept_in : Table → ℕ → GroupMember
-kept_in table handle = slice_index_or table.rows.items handle (record { number = 0; at = pos 0 })
-
-abbrev pub at_in : Table → ℕ → ℤ
-at_in table handle = (kept_in table handle).at
 
 abbrev pub cells_with : ℕ → ByNumber → Option (List ℤ)
 cells_with number groups = option_map (λ group. group.cells.items) (get groups number)
@@ -51,13 +44,13 @@ cells_in table groups handle = unwrap_or (cells_with (kept_in table handle).numb
 
 -- what is kept under the handle names a group, whose cells are so many
 pub record IsKept (count : ℕ) (table : Table) (groups : ByNumber) (handle : ℕ) : Type 0 where
-  pub within : handle < length table.rows.items
+  pub within : handle < length table.numbers.items
   pub there : IsSome (cells_with (kept_in table handle).number groups)
   pub width : length (cells_in table groups handle) ≡ count
 
 -- what is kept under the handle stays
 pub record IsSame (old : Table) (groups : ByNumber) (new : Table) (others : ByNumber) (handle : ℕ) : Type 0 where
-  pub within : handle < length new.rows.items
+  pub within : handle < length new.numbers.items
   pub cells : cells_with (kept_in new handle).number others ≡ cells_with (kept_in old handle).number groups
   pub at : at_in new handle ≡ at_in old handle
 
@@ -87,7 +80,7 @@ abbrev pub group_rows : List ℤ → List Row → List Row
 group_rows cells rows = rows_by_at (filter (λ row. same_cells cells row.member.cells) rows)
 
 abbrev pub slot_of : Row → GroupRow
-slot_of row = record { at = row.member.at; handle = row.handle }
+slot_of row = record { handle = row.handle }
 
 abbrev pub slots_under : List ℤ → Lists → List GroupRow
 slots_under cells lists = option_map_or (λ number. slots_numbered number lists.groups) (number_under cells lists.numbers) []

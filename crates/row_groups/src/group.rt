@@ -7,6 +7,7 @@ ghost use Rattle.row_groups.specs.Slots.{AreKnown, AreRanked};
 
 use crate::place::SearchKey;
 use crate::sequence::Sequence;
+use crate::table::Table;
 use row_handles::Handles;
 use std::marker::Model;
 use tick_model::limits::KEY_SPACE;
@@ -15,6 +16,7 @@ use tick_model::limits::KEY_SPACE;
 #[derive(Drop)]
 pub struct Group<'a> {
     handles: &'a Handles,
+    table: &'a Table,
     cells: &'a [i64],
     rows: &'a Sequence,
 }
@@ -26,23 +28,29 @@ impl<'a> Model for Group<'a> {
 
     ghost Value = { List Member };
 
-    ghost view = { λ group. map (member_at group.handles.now group.cells.now) group.rows.now };
+    ghost view = { λ group. map (member_at group.handles.now group.table.now group.cells.now) group.rows.now };
 
-    ghost invariant = { λ group. IsGroup group.handles.now group.rows.now };
+    ghost invariant = { λ group. IsGroup group.handles.now group.table.now group.rows.now };
 }
 
 impl<'a> Group<'a> {
     ghost use Rattle.row_groups.specs.Slots.{member_at};
 
     /// The rows with these cells.
-    pub(crate) fn new(handles: &'a Handles, cells: &'a [i64], rows: &'a Sequence) -> Group<'a>
+    pub(crate) fn new(
+        handles: &'a Handles,
+        table: &'a Table,
+        cells: &'a [i64],
+        rows: &'a Sequence,
+    ) -> Group<'a>
         requires handled { AreHandled handles.now }
         requires known { AreKnown handles.now rows.now }
-        requires ranked { AreRanked handles.now rows.now }
-        ensures { result ≡ map (member_at handles.now cells.now) rows.now }
+        requires ranked { AreRanked handles.now table.now rows.now }
+        ensures { result ≡ map (member_at handles.now table.now cells.now) rows.now }
     {
         Group {
             handles,
+            table,
             cells,
             rows,
         }
@@ -74,7 +82,7 @@ impl<'a> Group<'a> {
         requires { position < length self.now }
         ensures { slice_get (keys_of self.now) position ≡ Some result }
     {
-        self.handles.key_of(self.rows.get(position).handle)
+        self.handles.key_of(self.rows.get(position).handle as usize)
     }
 
     /// The `at` of the row at a position.
@@ -82,7 +90,7 @@ impl<'a> Group<'a> {
         requires { position < length self.now }
         ensures { slice_get (map (λ member. member.at) self.now) position ≡ Some result }
     {
-        self.rows.get(position).at
+        self.table.at(self.rows.get(position).handle as usize)
     }
 
     /// The key of the first row, or None where there is none.
@@ -90,7 +98,7 @@ impl<'a> Group<'a> {
         ensures { result ≡ slice_get (keys_of self.now) 0 }
     {
         let slot = self.rows.first()?;
-        Some(self.handles.key_of(slot.handle))
+        Some(self.handles.key_of(slot.handle as usize))
     }
 
     /// The key of the last row, or None where there is none.
@@ -98,7 +106,7 @@ impl<'a> Group<'a> {
         ensures { result ≡ slice_get (keys_of self.now) (length self.now - 1) }
     {
         let slot = self.rows.last()?;
-        Some(self.handles.key_of(slot.handle))
+        Some(self.handles.key_of(slot.handle as usize))
     }
 
     /// How many rows have an `at` that is not greater. They are the first ones. Where that is all of them, a look at the last one
@@ -107,12 +115,13 @@ impl<'a> Group<'a> {
         ensures { result ≡ count_by (λ member. int_le member.at at) self.now }
     {
         if let Some(last) = self.rows.last() {
-            if last.at <= at {
+            if self.table.at(last.handle as usize) <= at {
                 return self.rows.len();
             }
         }
         self.rows.count_before(&SearchKey {
             handles: self.handles,
+            table: self.table,
             at,
             key: KEY_SPACE,
         })
@@ -123,12 +132,13 @@ impl<'a> Group<'a> {
         ensures { result ≡ count_by (λ member. int_lt member.at at) self.now }
     {
         if let Some(first) = self.rows.first() {
-            if at <= first.at {
+            if at <= self.table.at(first.handle as usize) {
                 return 0;
             }
         }
         self.rows.count_before(&SearchKey {
             handles: self.handles,
+            table: self.table,
             at,
             key: 0,
         })

@@ -8,7 +8,7 @@ ghost use Rattle.row_groups.specs.Rows.{cells_with, members_of, rows_of};
 use crate::lists::Lists;
 use crate::place::{GroupRow, SearchKey};
 use crate::table::{GroupMember, Table};
-use row_handles::{Handle, Handles};
+use row_handles::{Handle, Handles, short};
 use row_set::RowSet;
 use shift_data::ShiftData;
 use std::alloc::{AllocError, Global};
@@ -61,15 +61,17 @@ impl GroupIndex {
         ensures handles { self.new.handles ≡ self.old.handles }
         ensures width { self.new.width ≡ self.old.width }
     {
-        self.table.make_room(handle)?;
+        let row = short(handle)?;
+        self.table.make_room(handle, at)?;
         let place = SearchKey {
             handles: &self.handles,
+            table: &self.table,
             at,
             key,
         };
         let number = self
             .lists
-            .put(cells, &place, GroupRow { at, handle }, near)?;
+            .put(cells, &place, GroupRow { handle: row }, near)?;
         self.table.keep(handle, GroupMember { number, at });
         Ok(number)
     }
@@ -116,6 +118,7 @@ impl GroupIndex {
             let kept = self.table.get(handle);
             let place = SearchKey {
                 handles: &self.handles,
+                table: &self.table,
                 at: kept.at,
                 key,
             };

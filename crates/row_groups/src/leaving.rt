@@ -24,6 +24,7 @@ impl GroupIndex {
         for key in keys {
             let place = SearchKey {
                 handles: &self.handles,
+                table: &self.table,
                 at,
                 key,
             };
@@ -54,6 +55,7 @@ impl GroupIndex {
     {
         let place = SearchKey {
             handles: &self.handles,
+            table: &self.table,
             at,
             key,
         };

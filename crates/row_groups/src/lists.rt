@@ -106,8 +106,8 @@ impl Lists {
     ) -> Result<usize, AllocError>
         requires sound { AreNumbered self.old }
         requires known { AreKnown place.now.handles.now (slots_under cells.now self.old) }
-        requires parted { IsParted (is_before place.now.handles.now place.now.at place.now.key) (slots_under cells.now self.old) }
-        ensures ok { IfOk result (λ number. Becomes cells.now (slots_with place.now.handles.now place.now.at place.now.key slot (slots_under cells.now self.old)) self.old self.new) }
+        requires parted { IsParted (is_before place.now.handles.now place.now.table.now place.now.at place.now.key) (slots_under cells.now self.old) }
+        ensures ok { IfOk result (λ number. Becomes cells.now (slots_with place.now.handles.now place.now.table.now place.now.at place.now.key slot (slots_under cells.now self.old)) self.old self.new) }
         ensures number { IfOk result (λ number. cells_with number self.new.groups ≡ Some cells.now) }
         ensures others { (other : ℕ) → IsSome (cells_with other self.old.groups) → cells_with other self.new.groups ≡ cells_with other self.old.groups }
         ensures err { OnErr result (Becomes cells.now (slots_under cells.now self.old) self.old self.new) }
@@ -139,10 +139,10 @@ impl Lists {
         requires sound { AreNumbered self.old }
         requires there { IsSome (cells_with number self.old.groups) }
         requires known { AreKnown place.now.handles.now (slots_numbered number self.old.groups) }
-        requires parted { IsParted (is_before place.now.handles.now place.now.at place.now.key) (slots_numbered number self.old.groups) }
-        ensures rows { (cells : List ℤ) → cells_with number self.old.groups ≡ Some cells → Becomes cells (slots_without place.now.handles.now place.now.at place.now.key (slots_under cells self.old)) self.old self.new }
-        ensures handle { result ≡ handle_from place.now.handles.now place.now.at place.now.key (slots_numbered number self.old.groups) }
-        ensures own { slots_without place.now.handles.now place.now.at place.now.key (slots_numbered number self.old.groups) ≢ [] → cells_with number self.new.groups ≡ cells_with number self.old.groups }
+        requires parted { IsParted (is_before place.now.handles.now place.now.table.now place.now.at place.now.key) (slots_numbered number self.old.groups) }
+        ensures rows { (cells : List ℤ) → cells_with number self.old.groups ≡ Some cells → Becomes cells (slots_without place.now.handles.now place.now.table.now place.now.at place.now.key (slots_under cells self.old)) self.old self.new }
+        ensures handle { result ≡ handle_from place.now.handles.now place.now.table.now place.now.at place.now.key (slots_numbered number self.old.groups) }
+        ensures own { slots_without place.now.handles.now place.now.table.now place.now.at place.now.key (slots_numbered number self.old.groups) ≢ [] → cells_with number self.new.groups ≡ cells_with number self.old.groups }
         ensures others { (other : ℕ) → other ≢ number → cells_with other self.new.groups ≡ cells_with other self.old.groups }
         ensures fewer { (other : ℕ) (cells : List ℤ) → cells_with other self.new.groups ≡ Some cells → cells_with other self.old.groups ≡ Some cells }
         ensures sound { AreNumbered self.new }

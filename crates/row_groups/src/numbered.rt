@@ -117,7 +117,12 @@ impl NumberedGroups {
         ensures members { AreGrouped (groups_of self.now) }
     {
         let group = self.index.lists.groups.get(number)?;
-        Some(Group::new(&self.index.handles, &group.cells, &group.rows))
+        Some(Group::new(
+            &self.index.handles,
+            &self.index.table,
+            &group.cells,
+            &group.rows,
+        ))
     }
 
     /// Whether each row is known to be the only one of its group: none has come to a group that was there.
@@ -134,6 +139,7 @@ impl NumberedGroups {
     {
         Group::new(
             &self.index.handles,
+            &self.index.table,
             cells,
             self.index.lists.rows_with(cells),
         )

@@ -29,11 +29,14 @@ fn likely_among(lower: &GroupRow, upper: &GroupRow, count: usize, place: &Search
     if count < FEW {
         return count / 2;
     }
-    let (least, most, own) = if lower.at == upper.at {
-        let least = place.handles.key_of(lower.handle);
-        (least, place.handles.key_of(upper.handle), place.key)
+    let first = place.table.at(lower.handle as usize);
+    let last = place.table.at(upper.handle as usize);
+    let (least, most, own) = if first == last {
+        let least = place.handles.key_of(lower.handle as usize);
+        let most = place.handles.key_of(upper.handle as usize);
+        (least, most, place.key)
     } else {
-        (rank(lower.at), rank(upper.at), rank(place.at))
+        (rank(first), rank(last), rank(place.at))
     };
     likely_place(least, most, own, count)
 }
@@ -44,10 +47,10 @@ fn rows_before(rows: &[GroupRow], upper: &GroupRow, place: &SearchKey<'_>) -> us
     requires some { 0 < length rows.now }
     requires upper { IsSome (key_with upper.now.handle place.now.handles.now) }
     requires known { AreKnown place.now.handles.now rows.now }
-    requires parted { IsParted (is_before place.now.handles.now place.now.at place.now.key) rows.now }
+    requires parted { IsParted (is_before place.now.handles.now place.now.table.now place.now.at place.now.key) rows.now }
     ensures within { result ≤ length rows.now }
-    ensures before { AllByRecursion (λ slot. is_before place.now.handles.now place.now.at place.now.key slot ≡ true) (take result rows.now) }
-    ensures others { AllByRecursion (λ slot. is_before place.now.handles.now place.now.at place.now.key slot ≡ false) (drop result rows.now) }
+    ensures before { AllByRecursion (λ slot. is_before place.now.handles.now place.now.table.now place.now.at place.now.key slot ≡ true) (take result rows.now) }
+    ensures others { AllByRecursion (λ slot. is_before place.now.handles.now place.now.table.now place.now.at place.now.key slot ≡ false) (drop result rows.now) }
 {
     let mut guess = likely_among(&rows[0], upper, rows.len(), place);
     let mut step = NEAR;
@@ -72,10 +75,10 @@ fn rows_before(rows: &[GroupRow], upper: &GroupRow, place: &SearchKey<'_>) -> us
 fn chunk_before(chunks: &Chunks<GroupRow>, place: &SearchKey<'_>) -> usize
     requires some { 0 < length chunks.now }
     requires known { AreKnown place.now.handles.now (joined chunks.now) }
-    requires parted { IsParted (is_before place.now.handles.now place.now.at place.now.key) (joined chunks.now) }
+    requires parted { IsParted (is_before place.now.handles.now place.now.table.now place.now.at place.now.key) (joined chunks.now) }
     ensures within { result < length chunks.now }
-    ensures before { AllByRecursion (λ slot. is_before place.now.handles.now place.now.at place.now.key slot ≡ true) (joined (take result chunks.now)) }
-    ensures others { AllByRecursion (λ slot. is_before place.now.handles.now place.now.at place.now.key slot ≡ false) (joined (drop (result + 1) chunks.now)) }
+    ensures before { AllByRecursion (λ slot. is_before place.now.handles.now place.now.table.now place.now.at place.now.key slot ≡ true) (joined (take result chunks.now)) }
+    ensures others { AllByRecursion (λ slot. is_before place.now.handles.now place.now.table.now place.now.at place.now.key slot ≡ false) (joined (drop (result + 1) chunks.now)) }
 {
     let mut low = 0;
     let mut high = chunks.len() - 1;
@@ -101,12 +104,12 @@ fn chunk_before(chunks: &Chunks<GroupRow>, place: &SearchKey<'_>) -> usize
 /// Where the rows before a place end. Where there are none, a look at the first row shows it.
 pub(crate) fn spot_before(chunks: &Chunks<GroupRow>, place: &SearchKey<'_>) -> Spot
     requires known { AreKnown place.now.handles.now (joined chunks.now) }
-    requires parted { IsParted (is_before place.now.handles.now place.now.at place.now.key) (joined chunks.now) }
+    requires parted { IsParted (is_before place.now.handles.now place.now.table.now place.now.at place.now.key) (joined chunks.now) }
     ensures within { result.index ≤ length chunks.now }
     ensures index { 0 < length chunks.now → result.index < length chunks.now }
     ensures offset { result.offset ≤ length (list_at result.index chunks.now) }
-    ensures before { AllByRecursion (λ slot. is_before place.now.handles.now place.now.at place.now.key slot ≡ true) (take (position_in chunks.now result) (joined chunks.now)) }
-    ensures others { AllByRecursion (λ slot. is_before place.now.handles.now place.now.at place.now.key slot ≡ false) (drop (position_in chunks.now result) (joined chunks.now)) }
+    ensures before { AllByRecursion (λ slot. is_before place.now.handles.now place.now.table.now place.now.at place.now.key slot ≡ true) (take (position_in chunks.now result) (joined chunks.now)) }
+    ensures others { AllByRecursion (λ slot. is_before place.now.handles.now place.now.table.now place.now.at place.now.key slot ≡ false) (drop (position_in chunks.now result) (joined chunks.now)) }
 {
     let none = Spot {
         index: 0,

@@ -82,10 +82,10 @@ impl Sequence {
     /// How many rows stand before a place: two binary searches, and the rows of the chunks before it are counted.
     fn search(&self, place: &SearchKey<'_>) -> usize
         requires known { AreKnown place.now.handles.now self.now }
-        requires parted { IsParted (is_before place.now.handles.now place.now.at place.now.key) self.now }
+        requires parted { IsParted (is_before place.now.handles.now place.now.table.now place.now.at place.now.key) self.now }
         ensures within { result ≤ length self.now }
-        ensures before { AllByRecursion (λ slot. is_before place.now.handles.now place.now.at place.now.key slot ≡ true) (take result self.now) }
-        ensures others { AllByRecursion (λ slot. is_before place.now.handles.now place.now.at place.now.key slot ≡ false) (drop result self.now) }
+        ensures before { AllByRecursion (λ slot. is_before place.now.handles.now place.now.table.now place.now.at place.now.key slot ≡ true) (take result self.now) }
+        ensures others { AllByRecursion (λ slot. is_before place.now.handles.now place.now.table.now place.now.at place.now.key slot ≡ false) (drop result self.now) }
     {
         let spot = spot_before(&self.chunks, place);
         self.chunks.count_in(spot.index) + spot.offset
@@ -94,10 +94,10 @@ impl Sequence {
     /// How many rows stand before a place. Where that is all of them or none, a look at the last row or the first shows it.
     pub(crate) fn count_before(&self, place: &SearchKey<'_>) -> usize
         requires known { AreKnown place.now.handles.now self.now }
-        requires parted { IsParted (is_before place.now.handles.now place.now.at place.now.key) self.now }
+        requires parted { IsParted (is_before place.now.handles.now place.now.table.now place.now.at place.now.key) self.now }
         ensures within { result ≤ length self.now }
-        ensures before { AllByRecursion (λ slot. is_before place.now.handles.now place.now.at place.now.key slot ≡ true) (take result self.now) }
-        ensures others { AllByRecursion (λ slot. is_before place.now.handles.now place.now.at place.now.key slot ≡ false) (drop result self.now) }
+        ensures before { AllByRecursion (λ slot. is_before place.now.handles.now place.now.table.now place.now.at place.now.key slot ≡ true) (take result self.now) }
+        ensures others { AllByRecursion (λ slot. is_before place.now.handles.now place.now.table.now place.now.at place.now.key slot ≡ false) (drop result self.now) }
     {
         if let Some(last) = self.last() {
             if place.is_after(last) {
@@ -127,8 +127,8 @@ impl Sequence {
     /// refusal all is as it was.
     pub(crate) fn put(&mut self, place: &SearchKey<'_>, slot: GroupRow) -> Result<(), AllocError>
         requires known { AreKnown place.now.handles.now self.old }
-        requires parted { IsParted (is_before place.now.handles.now place.now.at place.now.key) self.old }
-        ensures ok { OnOk result (self.new ≡ slots_with place.now.handles.now place.now.at place.now.key slot self.old) }
+        requires parted { IsParted (is_before place.now.handles.now place.now.table.now place.now.at place.now.key) self.old }
+        ensures ok { OnOk result (self.new ≡ slots_with place.now.handles.now place.now.table.now place.now.at place.now.key slot self.old) }
         ensures err { OnErr result (self.new ≡ self.old) }
     {
         if self.len == 0 {
@@ -149,14 +149,14 @@ impl Sequence {
     /// Takes out the first row that does not stand before a place, if there is one, and returns its handle.
     pub(crate) fn take(&mut self, place: &SearchKey<'_>) -> Option<Handle>
         requires known { AreKnown place.now.handles.now self.old }
-        requires parted { IsParted (is_before place.now.handles.now place.now.at place.now.key) self.old }
-        ensures rest { self.new ≡ slots_without place.now.handles.now place.now.at place.now.key self.old }
-        ensures handle { result ≡ handle_from place.now.handles.now place.now.at place.now.key self.old }
+        requires parted { IsParted (is_before place.now.handles.now place.now.table.now place.now.at place.now.key) self.old }
+        ensures rest { self.new ≡ slots_without place.now.handles.now place.now.table.now place.now.at place.now.key self.old }
+        ensures handle { result ≡ handle_from place.now.handles.now place.now.table.now place.now.at place.now.key self.old }
     {
         let end = spot_before(&self.chunks, place);
         let spot = self.chunks.next_item(end)?;
         let row = self.chunks.remove(spot);
         self.len -= 1;
-        Some(row.handle)
+        Some(row.handle as usize)
     }
 }

@@ -66,7 +66,7 @@ pub(crate) fn begun_by(blocks: &[RowBlock], key: u64) -> usize
 }
 
 /// A number of a row or a block in 32 bits: memory runs out before there are more of them.
-pub(crate) fn short(number: usize) -> Result<u32, AllocError>
+pub fn short(number: usize) -> Result<u32, AllocError>
     ensures { IfOk result (λ short. short ≡ number) }
 {
     u32::try_from(number).ok().ok_or(AllocError)

@@ -10,4 +10,5 @@ mod moves;
 mod search;
 
 pub use handles::{Handle, Handles};
+pub use index::short;
 pub use search::{inside, likely_place};

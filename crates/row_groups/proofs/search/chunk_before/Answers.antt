@@ -28,7 +28,7 @@ loop-low-preserved-then-is_after c =
     record {
       order = omega (arith, c.inside-middle.ensures.to);
       within = c.loop-low.invariant.within;
-      before = chunks_passed (is_before c.args.place.now.handles.now c.args.place.now.at c.args.place.now.key) chunks (middle + 1) _ lt some c.requires.parted (same_first (is_before c.args.place.now.handles.now c.args.place.now.at c.args.place.now.key) true _ _ _ c.chunk-in-loop-low.ensures.items (sym c.is_after.ensures ∙ c.if-is_after.true));
+      before = chunks_passed (is_before c.args.place.now.handles.now c.args.place.now.table.now c.args.place.now.at c.args.place.now.key) chunks (middle + 1) _ lt some c.requires.parted (same_first (is_before c.args.place.now.handles.now c.args.place.now.table.now c.args.place.now.at c.args.place.now.key) true _ _ _ c.chunk-in-loop-low.ensures.items (sym c.is_after.ensures ∙ c.if-is_after.true));
       others = c.loop-low.invariant.others;
     }
 
@@ -42,5 +42,5 @@ loop-low-preserved c =
       order = omega (arith, c.inside-middle.ensures.from);
       within = omega (arith, lt);
       before = c.loop-low.invariant.before;
-      others = chunks_failed (is_before c.args.place.now.handles.now c.args.place.now.at c.args.place.now.key) chunks (middle + 1) _ lt some c.requires.parted (same_first (is_before c.args.place.now.handles.now c.args.place.now.at c.args.place.now.key) false _ _ _ c.chunk-in-loop-low.ensures.items (sym c.is_after.ensures ∙ c.if-is_after.false));
+      others = chunks_failed (is_before c.args.place.now.handles.now c.args.place.now.table.now c.args.place.now.at c.args.place.now.key) chunks (middle + 1) _ lt some c.requires.parted (same_first (is_before c.args.place.now.handles.now c.args.place.now.table.now c.args.place.now.at c.args.place.now.key) false _ _ _ c.chunk-in-loop-low.ensures.items (sym c.is_after.ensures ∙ c.if-is_after.false));
     }

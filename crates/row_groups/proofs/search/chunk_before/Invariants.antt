@@ -8,8 +8,8 @@ abbrev pub invariant-loop-low : goal.invariant-loop-low
 invariant-loop-low l = record {
   order : l.low ≤ l.high;
   within : l.high < length l.chunks;
-  before : AllByRecursion (λ slot. is_before l.place.handles.now l.place.at l.place.key slot ≡ true) (joined (take l.low l.chunks));
-  others : AllByRecursion (λ slot. is_before l.place.handles.now l.place.at l.place.key slot ≡ false) (joined (drop (l.high + 1) l.chunks));
+  before : AllByRecursion (λ slot. is_before l.place.handles.now l.place.table.now l.place.at l.place.key slot ≡ true) (joined (take l.low l.chunks));
+  others : AllByRecursion (λ slot. is_before l.place.handles.now l.place.table.now l.place.at l.place.key slot ≡ false) (joined (drop (l.high + 1) l.chunks));
 }
 
 abbrev pub decreases-loop-low : goal.decreases-loop-low

@@ -7,7 +7,7 @@ pub loop-low-preserved-then-is_after : goal.loop-low-preserved-then-is_after
 loop-low-preserved-then-is_after c =
     let middle : ℕ = c.inside-middle.result in
     let rows = c.args.rows.now in
-    let test = is_before c.args.place.now.handles.now c.args.place.now.at c.args.place.now.key in
+    let test = is_before c.args.place.now.handles.now c.args.place.now.table.now c.args.place.now.at c.args.place.now.key in
     let lt : middle < length rows = omega (arith, c.inside-middle.ensures.from, c.inside-middle.ensures.to) in
     record {
       order = omega (arith, c.inside-middle.ensures.from, c.inside-middle.ensures.to);
@@ -25,5 +25,5 @@ loop-low-preserved c =
       order = omega (arith, c.inside-middle.ensures.from, c.inside-middle.ensures.to);
       within = omega (arith, c.inside-middle.ensures.from, c.inside-middle.ensures.to);
       before = c.loop-low.invariant.before;
-      others = failed_from (is_before c.args.place.now.handles.now c.args.place.now.at c.args.place.now.key) rows middle _ lt c.requires.parted (sym c.is_after.ensures ∙ c.if-is_after.false);
+      others = failed_from (is_before c.args.place.now.handles.now c.args.place.now.table.now c.args.place.now.at c.args.place.now.key) rows middle _ lt c.requires.parted (sym c.is_after.ensures ∙ c.if-is_after.false);
     }

@@ -7,8 +7,8 @@ abbrev pub invariant-loop-low : goal.invariant-loop-low
 invariant-loop-low l = record {
   order : l.low ≤ l.high;
   within : l.high ≤ length l.rows;
-  before : AllByRecursion (λ slot. is_before l.place.handles.now l.place.at l.place.key slot ≡ true) (take l.low l.rows);
-  others : AllByRecursion (λ slot. is_before l.place.handles.now l.place.at l.place.key slot ≡ false) (drop l.high l.rows);
+  before : AllByRecursion (λ slot. is_before l.place.handles.now l.place.table.now l.place.at l.place.key slot ≡ true) (take l.low l.rows);
+  others : AllByRecursion (λ slot. is_before l.place.handles.now l.place.table.now l.place.at l.place.key slot ≡ false) (drop l.high l.rows);
 }
 
 abbrev pub decreases-loop-low : goal.decreases-loop-low

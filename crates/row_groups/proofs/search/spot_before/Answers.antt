@@ -8,7 +8,7 @@ use Rattle.row_groups.proofs.search.spot_before.Goals.{then-next-count, else-nex
 
 pub returns-then-not-is_after-clause-others : goal.returns-then-not-is_after-clause-others
 returns-then-not-is_after-clause-others c =
-    let test = is_before c.args.place.now.handles.now c.args.place.now.at c.args.place.now.key in
+    let test = is_before c.args.place.now.handles.now c.args.place.now.table.now c.args.place.now.at c.args.place.now.key in
     failed_all test (joined c.args.chunks.now) c.in-Some.first.now (sym c.first.ensures ∙ ap option_copied c.in-Some.is) c.requires.parted (sym c.is_after.ensures ∙ c.if-not-is_after.true)
 
 fits : (c : goal.After-rows_before) → c.rows_before.result ≤ length (list_at c.chunk_before-index.result c.args.chunks.now)
@@ -32,7 +32,7 @@ rows_before-requires-clause-known c =
 
 pub rows_before-requires-clause-parted : goal.rows_before-requires-clause-parted
 rows_before-requires-clause-parted c =
-    let test = is_before c.args.place.now.handles.now c.args.place.now.at c.args.place.now.key in
+    let test = is_before c.args.place.now.handles.now c.args.place.now.table.now c.args.place.now.at c.args.place.now.key in
     subst (IsParted test) (sym c.chunk-rows.ensures.items) (parted_in test c.args.chunks.now c.chunk_before-index.result c.chunk_before-index.ensures.within c.requires.parted)
 
 pub returns-clause-within : goal.returns-clause-within
@@ -46,14 +46,14 @@ returns-clause-offset c = fits c
 
 pub returns-clause-before : goal.returns-clause-before
 returns-clause-before c =
-    let test = is_before c.args.place.now.handles.now c.args.place.now.at c.args.place.now.key in
+    let test = is_before c.args.place.now.handles.now c.args.place.now.table.now c.args.place.now.at c.args.place.now.key in
     before_in (λ slot. test slot ≡ true) c.args.chunks.now (record { index = c.chunk_before-index.result; offset = c.rows_before.result }) c.chunk_before-index.ensures.within (fits c)
     c.chunk_before-index.ensures.before
     (subst (λ rows. AllByRecursion (λ slot. test slot ≡ true) (take c.rows_before.result rows)) c.chunk-rows.ensures.items c.rows_before.ensures.before)
 
 pub returns-clause-others : goal.returns-clause-others
 returns-clause-others c =
-    let test = is_before c.args.place.now.handles.now c.args.place.now.at c.args.place.now.key in
+    let test = is_before c.args.place.now.handles.now c.args.place.now.table.now c.args.place.now.at c.args.place.now.key in
     others_in (λ slot. test slot ≡ false) c.args.chunks.now (record { index = c.chunk_before-index.result; offset = c.rows_before.result }) c.chunk_before-index.ensures.within (fits c)
     (subst (λ rows. AllByRecursion (λ slot. test slot ≡ false) (drop c.rows_before.result rows)) c.chunk-rows.ensures.items c.rows_before.ensures.others)
     (subst (λ n. AllByRecursion (λ slot. test slot ≡ false) (joined (drop n c.args.chunks.now))) (add-one c.chunk_before-index.result) c.chunk_before-index.ensures.others)

@@ -8,5 +8,5 @@ pub returns : goal.returns
 returns c =
     let group = c.self.inside in
     subst (AllByRecursion (λ (member : Member). member.cells ≡ group.cells.now)) c.self.view_is
-    (every-map (λ (member : Member). member.cells ≡ group.cells.now) (member_at group.handles.now group.cells.now) group.rows.now
+    (every-map (λ (member : Member). member.cells ≡ group.cells.now) (member_at group.handles.now group.table.now group.cells.now) group.rows.now
     (every (λ slot. group.cells.now ≡ group.cells.now) group.rows.now (λ slot. refl)))

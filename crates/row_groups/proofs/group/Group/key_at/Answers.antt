@@ -7,6 +7,6 @@ pub returns : goal.returns
 returns c =
     let group = c.self.inside in
     ap (λ members. slice_get (keys_of members) c.args.position) (sym c.self.view_is)
-    ∙ slot_of_member (λ member. member.key) group.handles.now group.cells.now group.rows.now c.args.position
+    ∙ slot_of_member (λ member. member.key) group.handles.now group.table.now group.cells.now group.rows.now c.args.position
     ∙ ap (option_map (λ slot. key_in group.handles.now slot.handle)) c.get.ensures
     ∙ ap (λ (key : Option ℕ). Some (unwrap_or key 0)) c.key_of.ensures.key

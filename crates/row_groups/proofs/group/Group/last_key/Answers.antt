@@ -10,8 +10,8 @@ returns c =
     let rows = group.rows.now in
     sym (
     ap (λ members. slice_get (keys_of members) (length members - 1)) (sym c.self.view_is)
-    ∙ slot_of_member (λ member. member.key) entries group.cells.now rows _
-    ∙ ap (λ n. option_map (λ slot. key_in entries slot.handle) (slice_get rows (n - 1))) (length-map rows (member_at entries group.cells.now))
+    ∙ slot_of_member (λ member. member.key) entries group.table.now group.cells.now rows _
+    ∙ ap (λ n. option_map (λ slot. key_in entries slot.handle) (slice_get rows (n - 1))) (length-map rows (member_at entries group.table.now group.cells.now))
     ∙ ap (option_map (λ slot. key_in entries slot.handle)) (sym c.last.ensures ∙ c.in_ok-slot.was)
     ∙ ap (λ (key : Option ℕ). Some (unwrap_or key 0)) c.key_of.ensures.key
     )

@@ -1,7 +1,7 @@
-use Rattle.std.proofs.Common.{◌≡◌, ◌∷◌, [], ◌∙◌, ap, refl, subst, Option, IsSome, sym, w64, ℕ, ℤ, Some, option_map}
+use Rattle.std.proofs.Common.{◌∷◌, [], ◌∙◌, ap, refl, subst, Option, IsSome, sym, w64, ℕ}
 use Rattle.std.proofs.lemmas.Int.{to_z-of_z}
 use Rattle.row_handles.specs.Entries.{left_rows}
-use Rattle.row_groups.{specs.Members.{IsRegrouped, Member, member_of, with_member}, specs.Indexes.{grouped_of, numbered_of}, specs.Rows.{members_of, rows_of}, proofs.Keys.small_under, proofs.Groupings.ranked_parted, proofs.Indexed.{grouped_same, index_left, members_removed}, proofs.Departing.{came_again, departed, departs_alone, departs_group, departs_handle, departs_there}}
+use Rattle.row_groups.{specs.Members.{member_of, with_member}, specs.Rows.{members_of, rows_of}, proofs.Keys.small_under, proofs.Groupings.ranked_parted, proofs.Indexed.{grouped_same, index_left, members_removed}, proofs.Departing.{came_again, departed, departs_alone, departs_group, departs_handle, departs_there}}
 use Rattle.row_groups.proofs.index.GroupIndex.regroup.Goals as goal
 
 pub take-requires-clause-there : goal.take-requires-clause-there
@@ -14,7 +14,7 @@ take-requires-clause-known c =
 
 pub take-requires-clause-parted : goal.take-requires-clause-parted
 take-requires-clause-parted c =
-    ranked_parted c.args.self.now.handles _ c.args.key _
+    ranked_parted c.args.self.now.handles c.args.self.now.table _ c.args.key _
     (departs_group _ _ _ _ _ (departs_alone c.args.key c.args.number c.args.at c.args.self.now c.requires.sound c.requires.number c.requires.at)).ranked
 
 pub enter-requires-clause-others : goal.enter-requires-clause-others

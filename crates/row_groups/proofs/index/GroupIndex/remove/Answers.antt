@@ -41,7 +41,7 @@ take-requires-clause-known c =
 
 pub take-requires-clause-parted : goal.take-requires-clause-parted
 take-requires-clause-parted c =
-    ranked_parted c.loop-key.self.handles _ c.in-Some.key (slots_numbered c.get-kept.result.number c.loop-key.self.lists.groups)
+    ranked_parted c.loop-key.self.handles c.loop-key.self.table _ c.in-Some.key (slots_numbered c.get-kept.result.number c.loop-key.self.lists.groups)
     (departs_group c.loop-key.yielded c.in-Some.key c.get-kept.result c.args.self.now c.loop-key.self
     (record { handle = c.in-Some-handle_of.handle; so_far = c.loop-key.invariant; new = next_new c.loop-key.yielded c.into_iter-key-iterator.ensures.into_iter_gives c.loop-key.yielded_by c.in-Some.ensures.steps; here = sym c.handle_of.ensures.handle ∙ c.in-Some-handle_of.is; kept_is = sym c.get-kept.ensures })).ranked
 

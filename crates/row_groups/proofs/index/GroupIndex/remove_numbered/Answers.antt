@@ -35,7 +35,7 @@ take-requires-clause-known c =
 
 pub take-requires-clause-parted : goal.take-requires-clause-parted
 take-requires-clause-parted c =
-    ranked_parted c.loop-key.self.handles _ c.in-Some.key _ (departs_group _ _ _ _ _
+    ranked_parted c.loop-key.self.handles c.loop-key.self.table _ c.in-Some.key _ (departs_group _ _ _ _ _
     (numbered_departs c.args.keys.now c.loop-key.yielded c.next.new.self c.args.numbers.now c.in-Some.key c.loop-key.position c.args.at c.args.self.now c.loop-key.self c.requires.sound c.loop-key.invariant.gone
     (yielded_next c.loop-key.yielded c.into_iter-key-iterator.ensures.into_iter_gives c.loop-key.yielded_by c.in-Some.ensures.steps) (next_new c.loop-key.yielded c.into_iter-key-iterator.ensures.into_iter_gives c.loop-key.yielded_by c.in-Some.ensures.steps)
     c.loop-key.invariant.position c.requires.numbers (next_has c.loop-key.yielded c.into_iter-key-iterator.ensures.into_iter_gives c.loop-key.yielded_by c.in-Some.ensures.steps _ c.requires.at))).ranked

@@ -28,7 +28,7 @@ returns-clause-ok c =
     let number = c.in-Some.number in
     let group = c.index_mut.result.now in
     let new : Lists = record old { crowded = true; groups = with_value old.groups number (record group { rows = c.put.new.self }) } in
-    let with = slots_with c.args.place.now.handles.now c.args.place.now.at c.args.place.now.key c.args.slot in
+    let with = slots_with c.args.place.now.handles.now c.args.place.now.table.now c.args.place.now.at c.args.place.now.key c.args.slot in
     let was = c.index_mut.ensures.value in
     let under = sym c.number_near.ensures ∙ c.in-Some.is in
     let own = with_same_cells cells number group old c.requires.sound under was in

@@ -12,7 +12,7 @@ returns-then-is_empty-clause-rows c = λ cells own.
     let group = c.index_mut.result.now in
     let left = c.take-handle.new.self in
     let mid : Lists = record old { groups = with_value old.groups number (record group { rows = left }) } in
-    let without = slots_without c.args.place.now.handles.now c.args.place.now.at c.args.place.now.key in
+    let without = slots_without c.args.place.now.handles.now c.args.place.now.table.now c.args.place.now.at c.args.place.now.key in
     let was = c.index_mut.ensures.value in
     let rows = group.rows in
     let rest = c.take-handle.ensures.rest in
@@ -30,7 +30,7 @@ returns-else-is_empty-clause-rows c = λ cells own.
     let group = c.index_mut.result.now in
     let left = c.take-handle.new.self in
     let mid : Lists = record old { groups = with_value old.groups number (record group { rows = left }) } in
-    let without = slots_without c.args.place.now.handles.now c.args.place.now.at c.args.place.now.key in
+    let without = slots_without c.args.place.now.handles.now c.args.place.now.table.now c.args.place.now.at c.args.place.now.key in
     let was = c.index_mut.ensures.value in
     let rows = group.rows in
     let rest = c.take-handle.ensures.rest in
@@ -71,7 +71,7 @@ give_up-requires c =
     let rows = c.index_mut.result.now.rows in
     let left = c.take-handle.new.self in
     let place = c.args.place.now in
-    let fewer : length left ≤ length rows = subst (λ (slots : List GroupRow). length slots ≤ length rows) (sym c.take-handle.ensures.rest) (shorter place.handles.now place.at place.key rows) in
+    let fewer : length left ≤ length rows = subst (λ (slots : List GroupRow). length slots ≤ length rows) (sym c.take-handle.ensures.rest) (shorter place.handles.now place.table.now place.at place.key rows) in
     let is = kept c.args.self.now c.args.number c.index_mut.result.now left c.requires.sound c.index_mut.ensures.value fewer in
     record { numbers = is.numbers; cells = is.cells; alone = is.alone }
 
@@ -80,6 +80,6 @@ returns-else-is_empty-clause-sound c =
     let rows = c.index_mut.result.now.rows in
     let left = c.take-handle.new.self in
     let place = c.args.place.now in
-    let fewer : length left ≤ length rows = subst (λ (slots : List GroupRow). length slots ≤ length rows) (sym c.take-handle.ensures.rest) (shorter place.handles.now place.at place.key rows) in
+    let fewer : length left ≤ length rows = subst (λ (slots : List GroupRow). length slots ≤ length rows) (sym c.take-handle.ensures.rest) (shorter place.handles.now place.table.now place.at place.key rows) in
     let is = kept c.args.self.now c.args.number c.index_mut.result.now left c.requires.sound c.index_mut.ensures.value fewer in
     record { numbers = is.numbers; cells = is.cells; alone = is.alone }

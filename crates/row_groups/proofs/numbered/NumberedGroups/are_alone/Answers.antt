@@ -8,7 +8,7 @@ returns c = λ alone cells.
     let index = c.self.inside.index in
     let calm : index.lists.crowded ≡ false = search rules in
     subst (λ (n : ℕ). n ≤ 1)
-    (sym (length-map (slots_under cells index.lists) (member_at index.handles cells))
+    (sym (length-map (slots_under cells index.lists) (member_at index.handles index.table cells))
     ∙ ap length (listed_members index.table index.lists.groups index.handles index.lists cells c.self.invariant.listed c.self.invariant.handled)
     ∙ ap (λ (numbered : Numbered). length (group_of cells numbered.members)) c.self.view_is)
     (c.self.invariant.numbered.alone calm cells)

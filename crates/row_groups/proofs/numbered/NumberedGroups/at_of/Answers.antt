@@ -1,6 +1,6 @@
 use Rattle.std.proofs.Common.{ap, sym, ◌∙◌, subst, refl, option_map, rules, Some, w64}
 use Rattle.std.proofs.lemmas.Int.{to_z-of_z}
-use Rattle.row_groups.{specs.Members.{AreGrouped, Numbered, groups_of, member_under}, specs.Rows.{IsKept, at_in}, proofs.Keys.under_has, proofs.Groupings.{are_grouped, under_same}}
+use Rattle.row_groups.{specs.Members.{AreGrouped, Numbered, groups_of, member_under}, specs.Kept.at_in, specs.Rows.IsKept, proofs.Keys.under_has, proofs.Groupings.{are_grouped, under_same}}
 use Rattle.row_groups.proofs.numbered.NumberedGroups.at_of.Goals as goal
 
 pub returns-in_err-handle-clause-at : goal.returns-in_err-handle-clause-at

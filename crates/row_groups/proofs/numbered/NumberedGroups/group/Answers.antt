@@ -12,13 +12,13 @@ pub new-requires-clause-ranked : goal.new-requires-clause-ranked
 new-requires-clause-ranked c =
     let index = c.self.inside.index in
     let is = c.self.invariant in
-    subst (AreRanked index.handles) (sym c.rows_with.ensures) (listed_group index.handles index.table index.lists.groups index.handles index.lists c.args.cells.now is.listed (known_all index.handles is.handled.handles) (ascending index.handles is.handled) is.handled).ranked
+    subst (AreRanked index.handles index.table) (sym c.rows_with.ensures) (listed_group index.handles index.table index.lists.groups index.handles index.lists c.args.cells.now is.listed (known_all index.handles is.handled.handles) (ascending index.handles is.handled) is.handled).ranked
 
 pub returns-clause-group : goal.returns-clause-group
 returns-clause-group c =
     let index = c.self.inside.index in
     c.new.ensures
-    ∙ ap (map (member_at index.handles c.args.cells.now)) c.rows_with.ensures
+    ∙ ap (map (member_at index.handles index.table c.args.cells.now)) c.rows_with.ensures
     ∙ listed_members index.table index.lists.groups index.handles index.lists c.args.cells.now c.self.invariant.listed c.self.invariant.handled
     ∙ ap (λ (numbered : Numbered). group_of c.args.cells.now numbered.members) c.self.view_is
 

@@ -24,7 +24,7 @@ returns-clause-group c =
     let there : get index.lists.groups c.args.number ≡ Some group = sym c.get.ensures ∙ ap option_copied c.in_ok-group.was in
     ap Some (
     c.new.ensures
-    ∙ ap (λ (cells : List ℤ). map (member_at index.handles cells) group.rows) c.deref.ensures.value
+    ∙ ap (λ (cells : List ℤ). map (member_at index.handles index.table cells) group.rows) c.deref.ensures.value
     ∙ members_with index c.self.invariant c.args.number group there
     ∙ ap (λ (numbered : Numbered). group_of group.cells.items numbered.members) c.self.view_is
     )

@@ -1,5 +1,5 @@
 use Rattle.std.proofs.Common.{ap, sym, ◌∙◌, subst, refl, option_map, List, ℤ}
-use Rattle.row_groups.{specs.declared.table.GroupMember.GroupMember, specs.Members.{AreGrouped, Member, Numbered, group_of, groups_of, member_under, name_at}, specs.Rows.{IsKept, cells_in, cells_with, kept_in}, proofs.Keys.under_has, proofs.Groupings.{are_grouped, under_same}, proofs.Indexed.some_cells, proofs.Named.name_is}
+use Rattle.row_groups.{specs.declared.table.GroupMember.GroupMember, specs.Members.{AreGrouped, Member, Numbered, group_of, groups_of, member_under, name_at}, specs.Kept.kept_in, specs.Rows.{IsKept, cells_in, cells_with}, proofs.Keys.under_has, proofs.Groupings.{are_grouped, under_same}, proofs.Indexed.some_cells, proofs.Named.name_is}
 use Rattle.row_groups.proofs.numbered.NumberedGroups.group_of.Goals as goal
 
 pub returns-in_err-handle-clause-group : goal.returns-in_err-handle-clause-group

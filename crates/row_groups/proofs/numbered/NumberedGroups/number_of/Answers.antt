@@ -1,6 +1,6 @@
 use Rattle.std.proofs.Common.{◌≡◌, ap, sym, ◌∙◌, subst, refl, option_map, ℕ, Option, Some, IsSome}
 use Rattle.std.proofs.lemmas.Option.{same_Some}
-use Rattle.row_groups.{specs.declared.table.GroupMember.GroupMember, specs.Members.{IsNumberOf, Numbered, member_under}, specs.Rows.{IsKept, cells_in, cells_with, kept_in}, proofs.Keys.under_has, proofs.Groupings.{there_under, under_same}, proofs.Indexed.some_cells, proofs.Named.number_is}
+use Rattle.row_groups.{specs.declared.table.GroupMember.GroupMember, specs.Members.{IsNumberOf, Numbered, member_under}, specs.Kept.kept_in, specs.Rows.{IsKept, cells_in, cells_with}, proofs.Keys.under_has, proofs.Groupings.{there_under, under_same}, proofs.Indexed.some_cells, proofs.Named.number_is}
 use Rattle.row_groups.proofs.numbered.NumberedGroups.number_of.Goals as goal
 
 pub unwrap-handle-requires : goal.unwrap-handle-requires

@@ -10,7 +10,7 @@ pub returns-then-self-eq0-clause-ok : goal.returns-then-self-eq0-clause-ok
 returns-then-self-eq0-clause-ok c =
     let place = c.args.place.now in
     let none : length c.args.self.now ≡ 0 = sym (ap length c.self.view_is) ∙ sym c.self.invariant.counted ∙ c.if-self-eq0.true in
-    on_ok_weaker c.push.result (λ is. is ∙ placed_alone place.handles.now place.at place.key c.args.slot c.args.self.now none) c.push.ensures.ok
+    on_ok_weaker c.push.result (λ is. is ∙ placed_alone place.handles.now place.table.now place.at place.key c.args.slot c.args.self.now none) c.push.ensures.ok
 
 pub is_after-requires : goal.is_after-requires
 is_after-requires c =
@@ -19,7 +19,7 @@ is_after-requires c =
 pub returns-then-is_after-clause-ok : goal.returns-then-is_after-clause-ok
 returns-then-is_after-clause-ok c =
     let place = c.args.place.now in
-    on_ok_weaker c.push-then-is_after.result (λ is. is ∙ placed_last place.handles.now place.at place.key c.args.slot c.in-Some.last c.args.self.now (sym c.last.ensures ∙ c.in-Some.is) c.requires.parted (sym c.is_after.ensures ∙ c.if-is_after.true)) c.push-then-is_after.ensures.ok
+    on_ok_weaker c.push-then-is_after.result (λ is. is ∙ placed_last place.handles.now place.table.now place.at place.key c.args.slot c.in-Some.last c.args.self.now (sym c.last.ensures ∙ c.in-Some.is) c.requires.parted (sym c.is_after.ensures ∙ c.if-is_after.true)) c.push-then-is_after.ensures.ok
 
 pub insert-requires-clause-index : goal.insert-requires-clause-index
 insert-requires-clause-index c =
@@ -32,5 +32,5 @@ returns-clause-ok c =
     let place = c.args.place.now in
     let spot = c.spot_before-spot.result in
     c.in_ok-insert.ensures.items
-    ∙ placed_with place.handles.now place.at place.key c.args.slot (joined chunks) (position_in chunks spot) (position_within chunks spot c.spot_before-spot.ensures.offset) c.spot_before-spot.ensures.before c.spot_before-spot.ensures.others
-    ∙ ap (slots_with place.handles.now place.at place.key c.args.slot) c.self.view_is
+    ∙ placed_with place.handles.now place.table.now place.at place.key c.args.slot (joined chunks) (position_in chunks spot) (position_within chunks spot c.spot_before-spot.ensures.offset) c.spot_before-spot.ensures.before c.spot_before-spot.ensures.others
+    ∙ ap (slots_with place.handles.now place.table.now place.at place.key c.args.slot) c.self.view_is

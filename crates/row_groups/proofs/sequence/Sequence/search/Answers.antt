@@ -19,13 +19,13 @@ returns-clause-within c = omega (arith, position_within c.self.inside.chunks c.s
 pub returns-clause-before : goal.returns-clause-before
 returns-clause-before c =
     let spot = c.spot_before-spot.result in
-    let test = is_before c.args.place.now.handles.now c.args.place.now.at c.args.place.now.key in
+    let test = is_before c.args.place.now.handles.now c.args.place.now.table.now c.args.place.now.at c.args.place.now.key in
     subst (λ rows. AllByRecursion (λ slot. test slot ≡ true) (take (c.count_in.result + spot.offset) rows)) c.self.view_is
     (subst (λ n. AllByRecursion (λ slot. test slot ≡ true) (take n (joined c.self.inside.chunks))) (position_is c.self.inside.chunks spot c.count_in.result c.count_in.ensures) c.spot_before-spot.ensures.before)
 
 pub returns-clause-others : goal.returns-clause-others
 returns-clause-others c =
     let spot = c.spot_before-spot.result in
-    let test = is_before c.args.place.now.handles.now c.args.place.now.at c.args.place.now.key in
+    let test = is_before c.args.place.now.handles.now c.args.place.now.table.now c.args.place.now.at c.args.place.now.key in
     subst (λ rows. AllByRecursion (λ slot. test slot ≡ false) (drop (c.count_in.result + spot.offset) rows)) c.self.view_is
     (subst (λ n. AllByRecursion (λ slot. test slot ≡ false) (drop n (joined c.self.inside.chunks))) (position_is c.self.inside.chunks spot c.count_in.result c.count_in.ensures) c.spot_before-spot.ensures.others)
