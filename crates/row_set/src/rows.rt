@@ -315,6 +315,14 @@ impl RowSet {
         })
     }
 
+    /// Takes the keys of another set in the place of its own, and keeps its room.
+    pub fn copy_from(&mut self, other: &RowSet) -> Result<(), AllocError>
+        ensures keys { OnOk result (self.new ≡ other.now) }
+        ensures none { OnErr result (self.new ≡ []) }
+    {
+        self.runs.copy_from(&other.runs)
+    }
+
     /// The keys that are in the sets as the choice has it.
     fn combined(&self, other: &RowSet, choice: SetOperation) -> Result<RowSet, AllocError>
         ensures { IfOk result (λ keys. keys ≡ chosen choice self.now other.now) }

@@ -1,6 +1,6 @@
 //! The ranges of a set as they lie: with places that are free before them, and with the number of keys before each block of places.
 //! An edit moves the ranges of the shorter side.
-ghost use Rattle.std.specs.Prelude.{◌≡◌, ℕ, ◌+◌, ◌-◌, ◌^◌, ◌<◌, ◌≤◌, [], ◌∷◌, ◌++◌, length, take, drop, slice_get, OnOk, vec_len};
+ghost use Rattle.std.specs.Prelude.{◌≡◌, ℕ, ◌+◌, ◌-◌, ◌^◌, ◌<◌, ◌≤◌, [], ◌∷◌, ◌++◌, length, take, drop, slice_get, OnErr, OnOk, vec_len};
 ghost use Rattle.std.specs.Bool.{OnTrue, OnFalse};
 ghost use Rattle.std.specs.List.{AllByRecursion};
 ghost use Rattle.row_set.specs.Ranges.{AreApart, AreRanges, keys_before, keys_from, keys_of};
@@ -91,6 +91,23 @@ impl Runs {
         let begin = (block * BLOCK).saturating_sub(self.front);
         let offset = position - keys_before_block(&self.starts, block);
         key_in(&self.as_slice()[begin..], offset)
+    }
+
+    /// Takes the ranges of others in the place of its own, and keeps its room.
+    pub(crate) fn copy_from(&mut self, other: &Runs) -> Result<(), AllocError>
+        requires stored { IsStored other.now }
+        ensures stored { IsStored self.new }
+        ensures ranges { OnOk result (lying self.new ≡ lying other.now) }
+        ensures none { OnErr result (lying self.new ≡ []) }
+    {
+        self.front = 0;
+        self.all.clear();
+        self.starts.clear();
+        self.starts.reserve(other.starts.len())?;
+        self.all.extend_from_slice(&other.all)?;
+        let _ = self.starts.extend_from_slice(&other.starts);
+        self.front = other.front;
+        Ok(())
     }
 
     /// Makes room for some more ranges.
