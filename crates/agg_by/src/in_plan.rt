@@ -1,12 +1,11 @@
 //! An aggregation as an operator of a plan.
 
 use crate::aggregation::Aggregation;
-use row_set::RowSet;
 use std::alloc::{AllocError, Global};
 use std::sync::ledger::Ledger;
 use table_operator::{StepFault, TableOperator, copied, one_input};
 use tick_model::plan::Op;
-use tick_table::{Change, Shared, Steps};
+use tick_table::{Change, Shared, Steps, TickTable};
 
 impl TableOperator for Aggregation {
     ghost use Rattle.agg_by.specs.Made.{CanAggregate, KeepsFirst, agg_made};
@@ -31,10 +30,10 @@ impl TableOperator for Aggregation {
     fn advance<L: Ledger>(
         self,
         alloc: Global,
-        own: &RowSet,
+        own: &TickTable,
         inputs: &[Shared],
         reads: &mut Steps<L>,
     ) -> Result<(Aggregation, Change), StepFault> {
-        Ok(self.change(alloc, one_input(inputs), own, reads)?)
+        Ok(self.change(alloc, one_input(inputs), own.rows(), reads)?)
     }
 }

@@ -2,12 +2,11 @@
 
 use crate::end::AtEnd;
 use crate::end_rows::EndRows;
-use row_set::RowSet;
 use std::alloc::{AllocError, Global};
 use std::sync::ledger::Ledger;
 use table_operator::{StepFault, TableOperator, one_input};
 use tick_model::plan::Op;
-use tick_table::{Change, Shared, Steps};
+use tick_table::{Change, Shared, Steps, TickTable};
 
 impl<E: AtEnd> TableOperator for EndRows<E> {
     ghost use Rattle.head_tail.specs.Made.{IsAt, made_at};
@@ -28,11 +27,11 @@ impl<E: AtEnd> TableOperator for EndRows<E> {
     fn advance<L: Ledger>(
         self,
         alloc: Global,
-        own: &RowSet,
+        own: &TickTable,
         inputs: &[Shared],
         reads: &mut Steps<L>,
     ) -> Result<(EndRows<E>, Change), StepFault> {
-        let change = self.change(alloc, one_input(inputs), own, reads)?;
+        let change = self.change(alloc, one_input(inputs), own.rows(), reads)?;
         Ok((self, change))
     }
 }

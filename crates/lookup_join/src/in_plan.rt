@@ -2,13 +2,12 @@
 
 use crate::as_of_op::AsOfOp;
 use crate::join_op::{JoinFault, JoinOp};
-use row_set::RowSet;
 use std::alloc::{AllocError, Global};
 use std::sync::ledger::Ledger;
 use table_operator::{StepFault, TableOperator, copied, two_inputs};
 use tick_model::plan::Op;
 use tick_model::table::NodeFault;
-use tick_table::{Change, Shared, Steps};
+use tick_table::{Change, Shared, Steps, TickTable};
 
 impl From<JoinFault> for StepFault {
     ghost use Rattle.std.specs.Prelude.{◌≡◌};
@@ -60,7 +59,7 @@ impl TableOperator for JoinOp {
     fn advance<L: Ledger>(
         self,
         alloc: Global,
-        _own: &RowSet,
+        _own: &TickTable,
         inputs: &[Shared],
         reads: &mut Steps<L>,
     ) -> Result<(JoinOp, Change), StepFault> {
@@ -92,7 +91,7 @@ impl TableOperator for AsOfOp {
     fn advance<L: Ledger>(
         self,
         alloc: Global,
-        _own: &RowSet,
+        _own: &TickTable,
         inputs: &[Shared],
         reads: &mut Steps<L>,
     ) -> Result<(AsOfOp, Change), StepFault> {

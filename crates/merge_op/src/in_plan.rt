@@ -2,13 +2,12 @@
 
 use crate::fault::MergeFault;
 use crate::merging::Merge;
-use row_set::RowSet;
 use std::alloc::{AllocError, Global};
 use std::sync::ledger::Ledger;
 use table_operator::{StepFault, TableOperator};
 use tick_model::plan::Op;
 use tick_model::table::NodeFault;
-use tick_table::{Change, Shared, Steps};
+use tick_table::{Change, Shared, Steps, TickTable};
 
 impl From<MergeFault> for StepFault {
     ghost use Rattle.std.specs.Prelude.{◌≡◌};
@@ -43,11 +42,11 @@ impl TableOperator for Merge {
     fn advance<L: Ledger>(
         self,
         alloc: Global,
-        own: &RowSet,
+        own: &TickTable,
         inputs: &[Shared],
         reads: &mut Steps<L>,
     ) -> Result<(Merge, Change), StepFault> {
-        let change = self.change(alloc, inputs, own, reads)?;
+        let change = self.change(alloc, inputs, own.rows(), reads)?;
         Ok((self, change))
     }
 }

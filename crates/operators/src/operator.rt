@@ -17,14 +17,13 @@ ghost use Rattle.tick_table.specs.Ticking.{no_rows};
 use crate::counts::{Counted, Idle, StepCount};
 use crate::running::AnyOperator;
 use boxcar::tag::Tag;
-use row_set::RowSet;
 use std::alloc::{AllocError, Global};
 use std::marker::Model;
 use std::snapshot::Snapshot;
 use std::sync::ledger::Ledger;
 use table_operator::{StepFault, TableOperator};
 use tick_model::plan::Op;
-use tick_table::{Change, Shared, Steps};
+use tick_table::{Change, Shared, Steps, TickTable};
 
 /// An operator of a plan, with what it keeps of its inputs' rows. It stands for the rows that it saw last.
 pub struct Operator {
@@ -81,13 +80,13 @@ impl Operator {
     }
 
     /// The operator after the step that the inputs show, and the change of its rows. It must stand for the inputs' rows before
-    /// the step, and `own` must have the keys of the rows that it makes of these; after a refusal it is given up, and no more is
-    /// read than that change may take. What it is over is said by the tables, or ticks, of all nodes by their numbers, of which
+    /// the step, and `own` must be the table that it makes of these; after a refusal it is given up, and no more is read than
+    /// that change may take. What it is over is said by the tables, or ticks, of all nodes by their numbers, of which
     /// it reads those of its inputs.
     pub fn step<L: Ledger>(
         self,
         alloc: Global,
-        own: &RowSet,
+        own: &TickTable,
         inputs: &[Shared],
         reads: &mut Steps<L>,
     ) -> Result<(Operator, Change), StepFault>
@@ -96,7 +95,7 @@ impl Operator {
         requires rows { AllByRecursion (λ input. length input.new.rows ≤ 4194304) (tables inputs.now) }
         requires keys { HasKeys self.op (news (tables inputs.now)) }
         requires stands { StandsFor self (olds (tables inputs.now)) }
-        requires shown { IsShown self.op (tables inputs.now) own.now }
+        requires shown { IsShown self.op (tables inputs.now) own.now.new }
         ensures op { IfOk result (λ out. out.0.op ≡ self.op) }
         ensures widths { IfOk result (λ out. out.0.widths ≡ self.widths) }
         ensures stands { IfOk result (λ out. StandsFor out.0 (news (tables inputs.now))) }

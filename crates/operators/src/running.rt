@@ -5,13 +5,12 @@ use head_tail::{AtFirst, AtLast, EndRows};
 use lookup_join::{AsOfOp, JoinOp};
 use merge_op::Merge;
 use row_ops::{RowFilter, ViewOp};
-use row_set::RowSet;
 use sort_op::SortOp;
 use std::alloc::{AllocError, Global};
 use std::sync::ledger::Ledger;
 use table_operator::{StepFault, TableOperator};
 use tick_model::plan::Op;
-use tick_table::{Change, Shared, Steps};
+use tick_table::{Change, Shared, Steps, TickTable};
 
 /// An operator with what it keeps.
 #[derive(Drop)]
@@ -54,7 +53,7 @@ impl TableOperator for AnyOperator {
     fn advance<L: Ledger>(
         self,
         alloc: Global,
-        own: &RowSet,
+        own: &TickTable,
         inputs: &[Shared],
         reads: &mut Steps<L>,
     ) -> Result<(AnyOperator, Change), StepFault> {

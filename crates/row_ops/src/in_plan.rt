@@ -3,12 +3,11 @@
 use crate::copies::{copied_exprs, copied_test};
 use crate::row_filter::RowFilter;
 use crate::view_op::ViewOp;
-use row_set::RowSet;
 use std::alloc::{AllocError, Global};
 use std::sync::ledger::Ledger;
 use table_operator::{StepFault, TableOperator, one_input};
 use tick_model::plan::Op;
-use tick_table::{Change, Shared, Steps};
+use tick_table::{Change, Shared, Steps, TickTable};
 
 impl TableOperator for RowFilter {
     ghost use Rattle.row_ops.specs.Made.{CanFilter, filter_made};
@@ -32,11 +31,11 @@ impl TableOperator for RowFilter {
     fn advance<L: Ledger>(
         self,
         alloc: Global,
-        own: &RowSet,
+        own: &TickTable,
         inputs: &[Shared],
         reads: &mut Steps<L>,
     ) -> Result<(RowFilter, Change), StepFault> {
-        let change = self.change(alloc, one_input(inputs), own, reads)?;
+        let change = self.change(alloc, one_input(inputs), own.rows(), reads)?;
         Ok((self, change))
     }
 }
@@ -63,7 +62,7 @@ impl TableOperator for ViewOp {
     fn advance<L: Ledger>(
         self,
         alloc: Global,
-        _own: &RowSet,
+        _own: &TickTable,
         inputs: &[Shared],
         reads: &mut Steps<L>,
     ) -> Result<(ViewOp, Change), StepFault> {

@@ -1,12 +1,11 @@
 //! A sort as an operator of a plan.
 
 use crate::operator::SortOp;
-use row_set::RowSet;
 use std::alloc::{AllocError, Global};
 use std::sync::ledger::Ledger;
 use table_operator::{StepFault, TableOperator, copied, one_input};
 use tick_model::plan::Op;
-use tick_table::{Change, Shared, Steps};
+use tick_table::{Change, Shared, Steps, TickTable};
 
 impl TableOperator for SortOp {
     ghost use Rattle.sort_op.specs.Made.{CanSort, HasEntries, sort_made};
@@ -30,7 +29,7 @@ impl TableOperator for SortOp {
     fn advance<L: Ledger>(
         self,
         alloc: Global,
-        _own: &RowSet,
+        _own: &TickTable,
         inputs: &[Shared],
         reads: &mut Steps<L>,
     ) -> Result<(SortOp, Change), StepFault> {

@@ -2,7 +2,7 @@
 --     Made      an operator of a plan over inputs that are numbered in order, and their widths
 --     IsMadeOf op made      it makes of its inputs what this operator of a plan makes of the nodes that it reads
 --     HasKeys op tables      there are keys enough for the rows that it makes
---     IsReady made Stands own inputs      the inputs are its own, and it stands for their rows before the step, when these were the keys of the rows of its own table
+--     IsReady made Stands own inputs      the inputs are its own, and it stands for their rows before the step, when its own table was this one
 --     own_tick made inputs, own_fault made inputs      the tick of its own table, and its fault where it has none now
 --     IsCause fault own      what a step answers in place of a change, where its inputs' tables have this fault
 --     room_for made inputs      how many cells a step may read
@@ -29,11 +29,11 @@ pub record IsMadeOf (op : Op) (made : Made) : Type 0 where
 abbrev pub own_tick : Made → List Ticking → Tick
 own_tick made inputs = operated made.op (tick_in (map tick_of inputs))
 
-pub record IsReady (made : Made) (Stands : List PlainTable → Type 0) (own : List ℕ) (inputs : List Ticking) : Type 0 where
+pub record IsReady (made : Made) (Stands : List PlainTable → Type 0) (own : PlainTable) (inputs : List Ticking) : Type 0 where
   pub widths : map (λ (input : Ticking). input.new.width) inputs ≡ made.widths
   pub exact : AllByRecursion IsExact inputs
   pub rows : AllByRecursion (λ (input : Ticking). length input.new.rows ≤ 4194304) inputs
-  pub shown : own ≡ keys (own_tick made inputs).old.rows
+  pub shown : own ≡ (own_tick made inputs).old
   pub keys : HasKeys made.op (news inputs)
   pub stands : Stands (olds inputs)
 

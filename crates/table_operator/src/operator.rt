@@ -1,11 +1,10 @@
 //! The trait that each operator has.
 
 use crate::fault::StepFault;
-use row_set::RowSet;
 use std::alloc::{AllocError, Global};
 use std::sync::ledger::Ledger;
 use tick_model::plan::Op;
-use tick_table::{Change, Shared, Steps};
+use tick_table::{Change, Shared, Steps, TickTable};
 
 /// An operator of a plan, with what it keeps of its inputs' rows. It stands for the rows that it saw last.
 pub trait TableOperator {
@@ -36,17 +35,17 @@ pub trait TableOperator {
         ensures stands { IfOk result (λ operator. stands operator (map no_rows widths.now)) };
 
     /// The operator after the step that the inputs show, and the change of its rows. It must stand for the inputs' rows before
-    /// the step, and `own` must have the keys of the rows of its own table before it. It is refused where memory runs out, or
-    /// where it has no table over the inputs now, and is then given up. No more cells are read than the change may take, also
+    /// the step, and `own` must be its own table as it is before it. It is refused where memory runs out, or where it has no
+    /// table over the inputs now, and is then given up. No more cells are read than the change may take, also
     /// where it is refused.
     fn advance<L: Ledger>(
         self,
         alloc: Global,
-        own: &RowSet,
+        own: &TickTable,
         inputs: &[Shared],
         reads: &mut Steps<L>,
     ) -> Result<(Self, Change), StepFault>
-        requires { IsReady (made self) (stands self) own.now (tables inputs.now) }
+        requires { IsReady (made self) (stands self) own.now.new (tables inputs.now) }
         ensures made { IfOk result (λ out. made out.0 ≡ made self) }
         ensures stands { IfOk result (λ out. stands out.0 (news (tables inputs.now))) }
         ensures sound { OnOk result (own_fault (made self) (tables inputs.now) ≡ None) }

@@ -1,5 +1,8 @@
 //! What changes a table: an update, with the new rows that it tells.
 
+ghost use Rattle.std.specs.Prelude.{◌≡◌, IfOk};
+
+use std::alloc::{AllocError, Global};
 use std::marker::Model;
 use table_update::Update;
 use tick_model::items::Items;
@@ -20,4 +23,16 @@ impl Model for Change {
     ghost Value = { Change };
 
     ghost view = { λ change. record { update = change.update; cells = change.cells } };
+}
+
+impl Change {
+    /// An equal change.
+    pub fn copy(&self, alloc: Global) -> Result<Change, AllocError>
+        ensures { IfOk result (λ copy. copy ≡ self.now) }
+    {
+        Ok(Change {
+            update: self.update.copy()?,
+            cells: Items::of(self.cells.as_slice().to_vec(alloc)?),
+        })
+    }
 }

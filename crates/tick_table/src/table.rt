@@ -80,14 +80,23 @@ impl TickTable {
         requires few { width ≤ 32 }
         ensures { IfOk result (λ table. table ≡ fresh width) }
     {
-        Ok(TickTable {
+        Ok(TickTable::empty(alloc, width))
+    }
+
+    /// A table of this width without rows, before and now. It takes no memory, so that it is not refused.
+    pub fn empty(alloc: Global, width: u32) -> TickTable
+        requires some { 1 ≤ width }
+        requires few { width ≤ 32 }
+        ensures { result ≡ fresh width }
+    {
+        TickTable {
             rows: RowSet::new(alloc),
             prev_rows: RowSet::new(alloc),
             placed: PlacedRows::new(alloc, width as usize),
             update: Update::none(alloc),
             told: Items::new(alloc),
             copies: 0,
-        })
+        }
     }
 
     /// The number of columns, before and now.
@@ -293,7 +302,7 @@ impl TickTable {
         ensures exact { OnOk result ((tick : Tick) → IsTick tick → self.old.new ≡ tick.old → change ≡ change_of tick → self.new ≡ ticking tick) }
         ensures refused { OnErr result ((self.new ≡ self.old) ⊎ (self.new ≡ fresh self.old.new.width)) }
     {
-        let empty = TickTable::new(self.placed.allocator(), self.width())?;
+        let empty = TickTable::empty(self.placed.allocator(), self.width());
         let table = mem::replace(self, empty);
         *self = table.apply(change)?;
         Ok(())

@@ -4,7 +4,7 @@ use Rattle.std.{specs.Prelude.{slice_index, sum, IfOk, Ok, Result, option_map}, 
 use Rattle.key_lists.proofs.Every.{every-map, every_unmapped, every_weaker, map_map, map_same, pass_all}
 use Rattle.table_operator.{specs.Inputs.{counted_in, news, olds, tables}, specs.Made.HasKeys}
 use Rattle.operators.{specs.Inputs.{AreTables, AreTicks, IsShown}, specs.Planned.input_widths}
-use Rattle.tick_model.{specs.declared.feed.Run.Run, specs.declared.plan.Op.Op, specs.declared.table.NodeFault.NodeFault, specs.declared.table.PlainTable.PlainTable, specs.Changes.{Change, change_of}, specs.Evaluation.{Outcome, Fault, NoInput, applied, has_table, is_source, or_fault, outcome_at, table_at}, specs.Operators.{fault_of, inputs_of, result, result_width}, specs.Plans.{columns_at, key_bounds}, specs.States.{state, tick}, specs.Tables.keys, specs.Updates.Tick}
+use Rattle.tick_model.{specs.declared.feed.Run.Run, specs.declared.plan.Op.Op, specs.declared.table.NodeFault.NodeFault, specs.declared.table.PlainTable.PlainTable, specs.Changes.{Change, change_of}, specs.Evaluation.{Outcome, Fault, NoInput, applied, has_table, is_source, or_fault, outcome_at, table_at}, specs.Operators.{fault_of, inputs_of, result, result_width}, specs.Plans.{columns_at, key_bounds}, specs.States.{state, tick}, specs.Updates.Tick}
 use Rattle.tick_laws.{specs.Bounded.IsNodeTable, specs.Operated.operated, specs.Reached.{IsTickFrom, table_before}, proofs.ReachedTables.bounded_at}
 use Rattle.tick_table.{specs.Exact.{IsExact, counted, tick_of}, specs.Ticking.Ticking, proofs.ExactAgain.{exact_again, tick_again}}
 use Rattle.update_graph.{specs.Entered.IsEntered, specs.Stands.{AreHanded, is_defined, most_reads, most_tried, room_for, shown}, specs.Tags.{Tag, is_operator, node_at, op_at, tag}, proofs.EnteredTicks.{entered_inputs, entered_tick, lesser, made, operated_before, operated_is, operator_outcome_at}, proofs.OperatorLaws.have_keys}
@@ -142,13 +142,13 @@ module _ {run : Run} {step n : ℕ} {all : List Ticking} {own : Op} (g : IsGiven
   pub own_ticks : AreTicks own (tick run step) all
   own_ticks = subst (λ o. AreTicks o (tick run step) all) (sym g.op_is) (sym (on_inputs tick_of (tick run step) (λ input i. tick_again (tick run step input) i.from.is_tick)))
 
-  -- the keys of the rows that its table has before
-  pub shown_are : IsShown own all (keys (table_before run step n).rows)
+  -- the table that it has before
+  pub shown_are : IsShown own all (table_before run step n)
   shown_are = record {
     tick = tick run step;
     those = own_ticks;
-    same = ap (λ (t : PlainTable). keys t.rows) (sym (operated_before run step g.entered n g.within g.operator (ticks_are run step g.entered n g.within g.operator g.defined)))
-        ∙ ap (λ o. keys (operated o (tick run step)).old.rows) (sym g.op_is);
+    same = sym (operated_before run step g.entered n g.within g.operator (ticks_are run step g.entered n g.within g.operator g.defined))
+        ∙ ap (λ o. (operated o (tick run step)).old) (sym g.op_is);
   }
 
   pub own_fault : (fault : NodeFault) → ((table : ℕ → PlainTable) → AreTables own table all → fault_of own table ≡ Some fault) → outcome_at (state run step) n ≡ Fault fault

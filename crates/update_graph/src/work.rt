@@ -408,7 +408,7 @@ pub(crate) fn advance_inside<L: Ledger>(
                 operator,
                 mut table,
             } = ready;
-            match operator.step(context.alloc, table.rows(), &inputs, reads) {
+            match operator.step(context.alloc, &table, &inputs, reads) {
                 Ok((operator, change)) => {
                     change_table(context.alloc, &mut table, change)?;
                     let ready = LiveNode { operator, table };

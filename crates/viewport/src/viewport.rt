@@ -127,7 +127,7 @@ impl Viewport {
         let _rows = table.rows();
         let touched = touched_rows(alloc, &slice, &last, &kept, table)?;
         let change = changed(alloc, &slice, &last, table, touched, reads)?;
-        let told = copied(alloc, &change)?;
+        let told = change.copy(alloc)?;
         let last = last.apply(told)?;
         let viewport = Viewport {
             alloc,
@@ -169,14 +169,4 @@ fn changed<L: Ledger>(
 {
     let rows = SliceRows { last, table, slice };
     change_of_touched(alloc, &rows, last.width(), touched, reads)
-}
-
-/// An equal change.
-fn copied(alloc: Global, change: &Change) -> Result<Change, AllocError>
-    ensures { IfOk result (λ copy. copy ≡ change.now) }
-{
-    Ok(Change {
-        update: change.update.copy()?,
-        cells: Items::of(change.cells.as_slice().to_vec(alloc)?),
-    })
 }

@@ -2,7 +2,7 @@ use Rattle.std.proofs.Common.{refl, ap, sym, ◌∙◌, subst, ◌+◌, ◌-◌,
 use Rattle.std.{proofs.lemmas.Bool.not-true, specs.Prelude.option_map, specs.declared.sync.Arc.Arc}
 use Rattle.table_operator.{specs.Inputs.tables, specs.Made.IsCause}
 use Rattle.operators.{specs.Inputs.IsShown, specs.Operating.StandsFor}
-use Rattle.tick_model.{specs.declared.table.PlainTable.PlainTable, specs.Evaluation.{has_table, is_source}, specs.Operators.fault_of, specs.States.tick, specs.Tables.keys}
+use Rattle.tick_model.{specs.Evaluation.{has_table, is_source}, specs.Operators.fault_of, specs.States.tick}
 use Rattle.tick_table.specs.Ticking.{Ticking}
 use Rattle.update_graph.{specs.Stands.{AreHanded, HasStepped}, specs.Tags.node_at, proofs.Changing.{change_fits, change_lawful}, proofs.Counting.{defined_all, stepped_once}, proofs.StepInputs.{exact_are, handed, keys_are, news_are, no_input, olds_are, own_change, own_fault, own_ticks, rows_are, shown_are, tried_by, tried_is, widths_are}}
 use Rattle.update_graph.proofs.work.advance_inside.Goals as goal
@@ -16,7 +16,7 @@ step-requires g c =
       rows = rows_are given;
       keys = keys_are given;
       stands = subst (StandsFor c.args.ready.operator) (sym (olds_are given)) c.requires.ready.stands;
-      shown = subst (IsShown c.args.ready.operator.op (tables c.deref-in-Some.result.now)) (ap (λ (t : PlainTable). keys t.rows) (sym c.requires.ready.own) ∙ ap (λ (t : Ticking). keys t.new.rows) (sym c.deref.ensures) ∙ sym c.rows.ensures.keys) (shown_are given);
+      shown = subst (IsShown c.args.ready.operator.op (tables c.deref-in-Some.result.now)) (sym c.requires.ready.own ∙ ap (λ (t : Ticking). t.new) (sym c.deref.ensures)) (shown_are given);
     }
 
 pub change_table-requires-clause-lawful : goal.change_table-requires-clause-lawful

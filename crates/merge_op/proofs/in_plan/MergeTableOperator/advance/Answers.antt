@@ -1,6 +1,6 @@
 use Rattle.std.proofs.Common.{◌∙◌, ap, ◌+◌, ◌*◌, ◌≤◌, sym, subst}
 use Rattle.std.proofs.lemmas.Result.{err_from_is_err_and}
-use Rattle.tick_model.{specs.Changes.{Change, change_of}, specs.Tables.keys, specs.Updates.Tick}
+use Rattle.tick_model.{specs.Changes.{Change, change_of}, specs.Tables.keys, specs.Updates.Tick, specs.declared.table.PlainTable.PlainTable}
 use Rattle.tick_table.specs.Exact.{counted}
 use Rattle.table_operator.specs.Inputs.{counted_in, tables}
 use Rattle.merge_op.{specs.Merged.rows_in, proofs.Planned.{cause_is, count_is, not_over, ok_is_within, one_width, own_is, reads_within}}
@@ -12,7 +12,7 @@ change-requires-clause-widths g c = one_width (tables c.args.inputs.now) c.args.
 pub change-requires-clause-shown : goal.change-requires-clause-shown
 change-requires-clause-shown g c =
     let inputs = tables c.args.inputs.now in
-    c.requires.shown ∙ ap (λ (own : Tick). keys own.old.rows) (own_is c.args.self inputs (count_is c.args.self inputs c.requires.widths))
+    c.rows.ensures.keys ∙ ap (λ (own : PlainTable). keys own.rows) c.requires.shown ∙ ap (λ (own : Tick). keys own.old.rows) (own_is c.args.self inputs (count_is c.args.self inputs c.requires.widths))
 
 pub returns-clause-sound : goal.returns-clause-sound
 returns-clause-sound g c =

@@ -2,7 +2,7 @@ use Rattle.std.proofs.Common.{◌≡◌, ap, sym, ◌∙◌, subst, ℕ, ◌+◌
 use Rattle.std.{specs.Prelude.sum, proofs.lemmas.Result.err_from_is_err_and}
 use Rattle.row_changes.proofs.Comparing.{on_err}
 use Rattle.tick_laws.specs.Operated.{operated}
-use Rattle.tick_model.{specs.declared.table.PlainTable.PlainTable, specs.Changes.{Change, change_of}, specs.Operators.{fault_of, result_width}, specs.Tables.keys, specs.Updates.Tick}
+use Rattle.tick_model.{specs.declared.table.PlainTable.PlainTable, specs.Changes.{Change, change_of}, specs.Operators.{fault_of, result_width}, specs.Updates.Tick}
 use Rattle.tick_table.specs.Exact.{counted}
 use Rattle.table_operator.{specs.Inputs.{counted_in, news, olds, tables}, specs.Made.{HasKeys, IsCause}}
 use Rattle.operators.{specs.Inputs.{AreTables, AreTicks, IsShown}, specs.Operating.{Operating, StandsFor, made_of}, proofs.Stepped.{own_fault_is, own_tick_is, room_is}}
@@ -11,14 +11,14 @@ use Rattle.operators.proofs.operator.Operator.step.Goals as goal
 pub advance-requires : goal.advance-requires
 advance-requires g c =
     let inputs = tables c.args.inputs.now in
-    let lent = subst (λ (operator : Operating). IsShown operator.op inputs c.args.own.now) (sym c.self.view_is) c.requires.shown in
+    let lent = subst (λ (operator : Operating). IsShown operator.op inputs c.args.own.now.new) (sym c.self.view_is) c.requires.shown in
     record {
       widths = c.requires.widths ∙ sym (ap (λ (operator : Operating). operator.widths) c.self.view_is);
       exact = c.requires.exact;
       rows = c.requires.rows;
       keys = c.self.invariant.keys (news inputs) (subst (λ (operator : Operating). HasKeys operator.op (news inputs)) (sym c.self.view_is) c.requires.keys);
       stands = subst (λ (operator : Operating). StandsFor operator (olds inputs)) (sym c.self.view_is) c.requires.stands;
-      shown = lent.same ∙ ap (λ (own : Tick). keys own.old.rows) (sym (own_tick_is c.self.inside.op.value (made_of c.self.inside.running) c.self.invariant inputs lent.tick lent.those));
+      shown = lent.same ∙ ap (λ (own : Tick). own.old) (sym (own_tick_is c.self.inside.op.value (made_of c.self.inside.running) c.self.invariant inputs lent.tick lent.those));
     }
 
 pub returns-clause-sound : goal.returns-clause-sound

@@ -1,12 +1,14 @@
-use Rattle.std.proofs.Common.{◌≡◌, ◌+◌, ◌*◌, ◌≤◌, subst, sym, List}
-use Rattle.tick_model.{specs.Changes.{Change, change_of}, specs.Tables.keys}
+use Rattle.std.proofs.Common.{◌≡◌, ◌∙◌, ap, ◌+◌, ◌*◌, ◌≤◌, subst, sym, List}
+use Rattle.tick_model.{specs.Changes.{Change, change_of}, specs.Tables.keys, specs.declared.table.PlainTable.PlainTable}
 use Rattle.tick_table.{specs.Exact.counted, specs.Ticking.Ticking}
 use Rattle.table_operator.{specs.Inputs.tables, specs.Made.own_tick, proofs.Rooms.one_room}
 use Rattle.row_ops.specs.Made.{filter_made}
 use Rattle.row_ops.proofs.in_plan.RowFilterTableOperator.advance.Goals as goal
 
 pub change-requires-clause-shown : goal.change-requires-clause-shown
-change-requires-clause-shown g c = subst (λ (inputs : List Ticking). c.args.own.now ≡ keys (own_tick (filter_made c.args.self) inputs).old.rows) c.one_input.ensures c.requires.shown
+change-requires-clause-shown g c =
+    subst (λ (inputs : List Ticking). c.rows.result.now ≡ keys (own_tick (filter_made c.args.self) inputs).old.rows) c.one_input.ensures
+    (c.rows.ensures.keys ∙ ap (λ (own : PlainTable). keys own.rows) c.requires.shown)
 
 pub returns-clause-change : goal.returns-clause-change
 returns-clause-change g c = subst (λ (inputs : List Ticking). c.in_ok-change.change ≡ change_of (own_tick (filter_made c.args.self) inputs)) (sym c.one_input.ensures) c.in_ok-change.ensures.change

@@ -1,6 +1,6 @@
 use Rattle.std.proofs.Common.{arith}
 use Rattle.tick_table.proofs.Before.{kept_fresh}
-use Rattle.tick_table.proofs.table.TickTable.new.Goals as goal
+use Rattle.tick_table.proofs.table.TickTable.empty.Goals as goal
 
 pub invariant_of-result : goal.invariant_of-result
 invariant_of-result c =
