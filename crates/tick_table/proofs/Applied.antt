@@ -152,12 +152,9 @@ module _ (rows before : List ℕ) (old : Placed) (last : Update) (last_told : Li
         (apart_back update.added update.modified (not_added (keys those) update breaks_none)))
 
     -- and the rows are brought on by it
-    module _ (new : Placed) (new_rows : List ℕ) (w : new.width ≡ old.width) (a : new_rows ≡ keys_after (keys_after before last) update)
+    module _ (new : Placed) (new_rows : List ℕ) (w : new.width ≡ old.width) (now_keys : new_rows ≡ keys_after rows update)
         (n : length new.rows ≡ length (keys_after rows update)) (slice : List ℤ) (same : slice ≡ cells) (p : paired (keys_after rows update) new.rows ≡ stepped update (rows_under old.width (told_keys update) slice) those)
         (l : new.left ≡ map (λ key. cells_at key those) update.removed) (s : new.saved ≡ flat_map (λ key. cells_at key stay) update.modified) where
-      now_keys : new_rows ≡ keys_after rows update
-      now_keys = a ∙ ap (λ ks. keys_after ks update) (sym k.after)
-
       now_rows : paired new_rows new.rows ≡ put_rows told stay
       now_rows = ap (λ ks. paired ks new.rows) now_keys ∙ p ∙ ap (λ (cells : List ℤ). stepped update (rows_under old.width (told_keys update) cells) those) same
 

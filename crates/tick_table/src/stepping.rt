@@ -5,6 +5,7 @@ ghost use Rattle.std.specs.Bool.{OnTrue};
 ghost use Rattle.std.specs.List.{AllByRecursion};
 ghost use Rattle.key_lists.specs.Keys.{is_among, without};
 ghost use Rattle.row_set.specs.Sets.{IsKeySet};
+ghost use Rattle.table_update.specs.Coalesced.{Follow};
 ghost use Rattle.tick_laws.specs.Checked.{keys_after};
 ghost use Rattle.tick_model.specs.Changes.{rows_under, told_keys};
 ghost use Rattle.tick_model.specs.Rules.{update_fault};
@@ -17,6 +18,44 @@ use crate::places::KeyCursor;
 use row_set::RowSet;
 use std::alloc::AllocError;
 use table_update::Update;
+
+/// As many ranges of keys are copied sooner than an update more is applied to them,
+const FEW_RANGES: usize = 64;
+/// and as many more for each range that an update adds or removes.
+const RANGES_FOR_EACH_CHANGED: usize = 16;
+
+/// The keys after an update of these, in the room of those of before. Where they have few ranges they are copied; else those of
+/// before are brought on by both updates.
+pub(crate) fn next_keys(
+    rows: &RowSet,
+    mut before: RowSet,
+    last: &Update,
+    update: &Update,
+) -> Result<RowSet, AllocError>
+    requires follow { Follow before last.now update.now }
+    requires after { rows.now ≡ keys_after before last.now }
+    ensures { IfOk result (λ after. after ≡ keys_after rows.now update.now) }
+{
+    if has_few_ranges(rows, last, update) {
+        before.copy_from(rows)?;
+        update.apply_to_keys(before)
+    } else {
+        last.apply_both_to_keys(update, before)
+    }
+}
+
+/// Whether keys have so few ranges that a copy of them costs less than an update more.
+fn has_few_ranges(rows: &RowSet, last: &Update, update: &Update) -> bool {
+    let changed = count_changed(last).saturating_add(count_changed(update));
+    let few = changed.saturating_mul(RANGES_FOR_EACH_CHANGED);
+    rows.ranges().len() <= few.saturating_add(FEW_RANGES)
+}
+
+/// How many ranges of keys an update adds and removes.
+fn count_changed(update: &Update) -> usize {
+    let added = update.added().ranges();
+    added.len().saturating_add(update.removed().ranges().len())
+}
 
 /// Brings rows under these keys on by a change, to those under the keys after it. What the change removes and replaces is kept
 /// aside, so that the rows from before can be told.

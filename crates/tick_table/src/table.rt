@@ -16,7 +16,7 @@ ghost use Rattle.tick_table.specs.Versions.{table_in};
 use crate::change::Change;
 use crate::placed::PlacedRows;
 use crate::slots::row_at;
-use crate::stepping::bring_on;
+use crate::stepping::{bring_on, next_keys};
 use crate::steps::Steps;
 use crate::version::Version;
 use new_counts::NewCopy;
@@ -280,7 +280,7 @@ impl TickTable {
             copies,
         } = self;
         let Change { update, cells } = change;
-        let now = last.apply_both_to_keys(&update, prev_rows)?;
+        let now = next_keys(&rows, prev_rows, &last, &update)?;
         bring_on(&mut placed, &rows, &now, &update, cells.as_slice())?;
         Ok(TickTable {
             rows: now,

@@ -1,11 +1,10 @@
-use Rattle.std.proofs.Common.{ap, ap₂, sym, ◌∙◌, length}
-use Rattle.tick_laws.specs.Checked.{keys_after}
+use Rattle.std.proofs.Common.{ap, ap₂, ◌∙◌, length}
 use Rattle.tick_model.specs.Changes.{Change, changed}
 use Rattle.tick_table.{specs.Ticking.Ticking, proofs.Applied.{follows, kept_is, lawful, new_is, old_is, whole}, proofs.ExactAgain.applied_is}
 use Rattle.tick_table.proofs.table.TickTable.apply.Goals as goal
 
-pub apply_both_to_keys-requires : goal.apply_both_to_keys-requires
-apply_both_to_keys-requires c =
+pub next_keys-requires-clause-follow : goal.next_keys-requires-clause-follow
+next_keys-requires-clause-follow c =
     let s = c.self.inside in
     follows s.rows s.prev_rows s.placed s.update s.told c.self.invariant c.change.inside.update c.change.inside.cells c.args.self.new c.args.change (ap (λ (table : Ticking). table.new) c.self.view_is) c.change.view_is c.requires.lawful c.requires.whole
 
@@ -13,9 +12,6 @@ pub bring_on-requires-clause-lawful : goal.bring_on-requires-clause-lawful
 bring_on-requires-clause-lawful c =
     let s = c.self.inside in
     lawful s.rows s.prev_rows s.placed s.update s.told c.self.invariant c.change.inside.update c.change.inside.cells c.args.self.new c.args.change (ap (λ (table : Ticking). table.new) c.self.view_is) c.change.view_is c.requires.lawful c.requires.whole
-
-pub bring_on-requires-clause-after : goal.bring_on-requires-clause-after
-bring_on-requires-clause-after c = c.in_ok-now.ensures ∙ ap (λ ks. keys_after ks c.change.inside.update) (sym c.self.invariant.after)
 
 pub bring_on-requires-clause-count : goal.bring_on-requires-clause-count
 bring_on-requires-clause-count c = c.self.invariant.count
