@@ -1,8 +1,8 @@
 -- Slots of which no two rows have one: as rows are taken out, put in and replaced.
-use Rattle.std.proofs.Common.{◌≡◌, refl, ap, ap₂, sym, ◌∙◌, subst, cond, ℕ, zero, suc, ◌+◌, ◌-◌, ◌<◌, ◌≤◌, arith, List, [], ◌∷◌, ◌++◌, append_assoc, length, length-append, map, take, drop, get_or, set, reverse, slice_range, ℤ, ◌==◌, inl, inr}
-use Rattle.std.{specs.List.{AllByRecursion, insert, range_with_len, remove, remove_range}, proofs.Math.Seq.get_or-append_seam, proofs.lemmas.Bool.{cases_eq, cases_lt, eq-eqb, ne_eqb}, proofs.lemmas.List.{drop-drop, drop-map, get_or-map, get_or-set_other, get_or-set_same, get_or_append_left, length_push, length-map, length-set, map-append, reverse-append, take-map}, proofs.lemmas.List.Sorted.{IsPermutation-reverse, sum_by-IsPermutation}, proofs.lemmas.List.Sums.{sum_by-append, sum_by-cons, sum_by-insert, sum_by-remove, sum_by-take-drop}}
-use Rattle.key_lists.{proofs.Every.{every_both, every_weaker, every-append, map_same}, proofs.Parts.{every-drop, every-take, every_at, every_front, every_insert}, proofs.Ranges.range_below}
-use Rattle.tick_table.{specs.Placed.{AreOwn, cells_of, uses}, specs.Slots.{AreSlots, IsFilled, SlotCells}}
+use Rattle.std.proofs.Common.{◌≡◌, refl, ap, ap₂, sym, ◌∙◌, subst, cond, ℕ, zero, suc, ◌+◌, ◌-◌, ◌<◌, ◌≤◌, arith, List, [], ◌∷◌, ◌++◌, append_assoc, append-nil, length, map, take, drop, get_or, set, reverse, slice_range, ℤ, ◌==◌, inl, inr}
+use Rattle.std.{specs.List.{AllByRecursion, insert, range_with_len, remove, remove_range}, proofs.Math.Seq.get_or-append_seam, proofs.lemmas.Bool.{cases_eq, eq-eqb, ne_eqb}, proofs.lemmas.List.{drop-drop, drop-map, get_or-map, get_or-set_other, get_or-set_same, get_or_append_left, length_push, length-map, length-set, map-append, reverse-append, take-map}, proofs.lemmas.List.Edits.insert_end, proofs.lemmas.List.Sorted.{IsPermutation-reverse, sum_by-IsPermutation}, proofs.lemmas.List.Sums.{sum_by-append, sum_by-cons, sum_by-insert, sum_by-remove, sum_by-take-drop}}
+use Rattle.key_lists.{proofs.Every.{every_both, every_weaker, every-append, map_same}, proofs.Parts.{every-drop, every-take, every_at, every_front, every_insert}}
+use Rattle.tick_table.{specs.Placed.{AreFilled, AreOwn, cells_of, uses}, specs.Slots.{AreSlots, IsFilled, SlotCells}}
 
 abbrev is_used : ℕ → ℕ → ℕ
 is_used slot other = cond (other == slot) 1 0
@@ -67,6 +67,14 @@ at-cells rows xs n within = get_or-map (λ slot. get_or rows slot []) xs n 0 [] 
 
 pub own_as : (slots : SlotCells) (places left places_is left_is : List ℕ) → places_is ≡ places → left_is ≡ left → AreOwn slots places left → AreOwn slots places_is left_is
 own_as slots places left places_is left_is p l h = subst (λ (xs : List ℕ). AreOwn slots xs left_is) (sym p) (subst (AreOwn slots places) (sym l) h)
+
+pub own_front : (slots : SlotCells) (places more left : List ℕ) → AreOwn slots (places ++ more) left → AreOwn slots places left
+own_front slots places more left h = record {
+  place_slots = every_front (λ slot. slot < length slots.rows) places more h.place_slots;
+  left_slots = h.left_slots;
+  free_slots = h.free_slots;
+  once = λ slot. omega (arith, h.once slot, uses-append slot places more);
+}
 
 pub map-left : {X Y : Type 0} (f : X → Y) (xs : List X) (n m : ℕ) → map f (remove_range xs n m) ≡ remove_range (map f xs) n m
 map-left f xs n m = map-append f (take n xs) (drop m xs) ∙ sym (ap₂ (λ ys zs. ys ++ zs) (take-map f n xs) (drop-map f m xs))
@@ -177,14 +185,6 @@ module _ (slots : SlotCells) (places left : List ℕ) (h : AreOwn slots places l
           | inr opened ↦ subst (AreSlots (length slots.rows)) (sym opened.0) h.free_slots
         ]
 
-    pub own_filled : AreOwn new places left
-    own_filled = record {
-      place_slots = widened places h.place_slots;
-      left_slots = widened left h.left_slots;
-      free_slots = widened new.free free_ones;
-      once = λ other. omega (arith, h.once other, fewer other);
-    }
-
     pub own_put : (n : ℕ) → AreOwn new (insert places n slot) left
     own_put n = record {
       place_slots = every_insert (λ other. other < length new.rows) places n slot f.inside (widened places h.place_slots);
@@ -206,11 +206,24 @@ module _ (slots : SlotCells) (places left : List ℕ) (h : AreOwn slots places l
               | inr differs ↦ let own = used_other other slot differs in omega (arith, more, own, h.once other, fewer other)
             ]
 
+    pub own_last : AreOwn new (places ++ slot ∷ []) left
+    own_last = subst (λ (xs : List ℕ). AreOwn new xs left) (insert_end places slot) (own_put (length places))
+
+    pub own_filled : AreOwn new places left
+    own_filled = own_front new places (slot ∷ []) left own_last
+
     pub places_same : cells_of new.rows places ≡ cells_of slots.rows places
     places_same = cells_same (length slots.rows) slot new.rows slots.rows places f.others h.place_slots unused_places
 
     pub left_same : cells_of new.rows left ≡ cells_of slots.rows left
     left_same = cells_same (length slots.rows) slot new.rows slots.rows left f.others h.left_slots unused_left
+
+    pub filled_one : AreFilled (row ∷ []) slots new (slot ∷ []) places left
+    filled_one = record {
+      own = own_last;
+      cells = map-append (λ slot. get_or new.rows slot []) places (slot ∷ []) ∙ ap₂ (λ (front : List (List ℤ)) (last : List ℤ). front ++ last ∷ []) places_same f.here;
+      others = left_same;
+    }
 
   -- the cells of the row at a position were written over
   module _ (row : List ℤ) (new : SlotCells) (n : ℕ) (within : n < length places) (rows : new.rows ≡ set slots.rows (get_or places n 0) row) (free : new.free ≡ slots.free) where
@@ -239,74 +252,36 @@ module _ (slots : SlotCells) (places left : List ℕ) (h : AreOwn slots places l
         let used = uses_at (get_or places n 0) places n within refl in
         cells_same (length slots.rows) (get_or places n 0) new.rows slots.rows left others_same h.left_slots (omega (arith, h.once (get_or places n 0), used))
 
--- slots behind others
-uses_above : (slot count : ℕ) (xs : List ℕ) → count ≤ slot → AreSlots count xs → uses slot xs ≡ 0
-uses_above slot count xs most h = uses_past slot xs (every_weaker (λ other. other < count) (λ other. other < slot) xs (λ other own. omega (arith, own, most)) h)
-
-uses_below : (slot first n : ℕ) → slot < first → uses slot (range_with_len first n) ≡ 0
-uses_below slot first zero less = refl
-uses_below slot first (suc n) less =
-    uses-cons slot first (range_with_len (first + 1) n) ∙ ap₂ (λ (m n : ℕ). m + n) (used_other slot first (λ same. omega (arith, same, less))) (uses_below slot (first + 1) n (omega (arith, less)))
-
-uses_once : (slot first n : ℕ) → uses slot (range_with_len first n) ≤ 1
-uses_once slot first zero = omega arith
-uses_once slot first (suc n) =
-    let all = uses-cons slot first (range_with_len (first + 1) n) in
-    elim (cases_eq first slot) [
-      | inl same ↦ let own = used_own slot first same in let none = uses_below slot (first + 1) n (omega (arith, same)) in omega (arith, all, own, none)
-      | inr differs ↦ let other = used_other slot first differs in omega (arith, all, other, uses_once slot (first + 1) n)
-    ]
-
-cells_front : (rows more : List (List ℤ)) (xs : List ℕ) → AreSlots (length rows) xs → cells_of (rows ++ more) xs ≡ cells_of rows xs
-cells_front rows more [] h = refl
-cells_front rows more (x ∷ xs) h = ap₂ (λ (cells : List ℤ) (rest : List (List ℤ)). cells ∷ rest) (get_or_append_left rows more [] x h.0) (cells_front rows more xs h.1)
-
-cells_back : (rows more : List (List ℤ)) (first : ℕ) → first ≡ length rows → cells_of (rows ++ more) (range_with_len first (length more)) ≡ more
-cells_back rows [] first e = refl
-cells_back rows (row ∷ more) first e =
-    ap₂ (λ (cells : List ℤ) (rest : List (List ℤ)). cells ∷ rest)
-    (ap (λ n. get_or (rows ++ row ∷ more) n []) e ∙ get_or-append_seam rows row more [])
-    (ap (λ (all : List (List ℤ)). cells_of all (range_with_len (first + 1) (length more))) (sym (append_assoc rows (row ∷ []) more)) ∙ cells_back (rows ++ row ∷ []) more (first + 1) (omega (arith, e, length_push rows row)))
+-- rows were put into slots after others were
+pub filled_then : (rows more : List (List ℤ)) (old now new : SlotCells) (slots others places left : List ℕ) → AreFilled rows old now slots places left → AreFilled more now new others (places ++ slots) left → AreFilled (rows ++ more) old new (slots ++ others) places left
+filled_then rows more old now new slots others places left first last =
+    let all = append_assoc places slots others in record {
+      own = subst (λ (xs : List ℕ). AreOwn new xs left) all last.own;
+      cells = ap (cells_of new.rows) (sym all) ∙ last.cells ∙ ap (λ (front : List (List ℤ)). front ++ more) first.cells ∙ append_assoc (cells_of old.rows places) rows more;
+      others = last.others ∙ first.others;
+    }
 
 -- rows were put into new slots
-module _ (slots : SlotCells) (places left : List ℕ) (h : AreOwn slots places left) (new : SlotCells) (more : List (List ℤ)) (rows : new.rows ≡ slots.rows ++ more) (free : new.free ≡ slots.free) where
-  within_more : (xs : List ℕ) → AreSlots (length slots.rows) xs → AreSlots (length new.rows) xs
-  within_more xs = every_weaker (λ other. other < length slots.rows) (λ other. other < length new.rows) xs (λ other own. omega (arith, own, ap length rows, length-append slots.rows more))
-
-  pub own_opened : AreOwn new places left
-  own_opened = record {
-    place_slots = within_more places h.place_slots;
-    left_slots = within_more left h.left_slots;
-    free_slots = within_more new.free (subst (AreSlots (length slots.rows)) (sym free) h.free_slots);
-    once = λ slot. let same = ap (uses slot) free in omega (arith, h.once slot, same);
-  }
-
-  pub own_appended : (n : ℕ) → n ≡ length more → AreOwn new (places ++ range_with_len (length slots.rows) n) left
-  own_appended n e =
-      let first = length slots.rows in record {
-        place_slots = every-append (λ slot. slot < length new.rows) places (range_with_len first n) (within_more places h.place_slots)
-            (every_weaker (λ slot. slot < first + n) (λ slot. slot < length new.rows) (range_with_len first n) (λ slot own. omega (arith, own, e, ap length rows, length-append slots.rows more)) (range_below first n));
-        left_slots = own_opened.left_slots;
-        free_slots = own_opened.free_slots;
-        once = λ slot.
-            let same = ap (uses slot) free in
-            let all = uses-append slot places (range_with_len first n) in
-            elim (cases_lt slot first) [
-              | inl old ↦ let none = uses_below slot first n old in omega (arith, h.once slot, same, all, none)
-              | inr past ↦
-                  let a = uses_above slot first places past h.place_slots in
-                  let b = uses_above slot first left past h.left_slots in
-                  let d = uses_above slot first slots.free past h.free_slots in
-                  omega (arith, same, all, a, b, d, uses_once slot first n)
-            ];
-      }
-
-  pub cells_stay : (xs : List ℕ) → AreSlots (length slots.rows) xs → cells_of new.rows xs ≡ cells_of slots.rows xs
-  cells_stay xs own = ap (λ (all : List (List ℤ)). cells_of all xs) rows ∙ cells_front slots.rows more xs own
-
-  pub cells_appended : (n : ℕ) → n ≡ length more → cells_of new.rows (places ++ range_with_len (length slots.rows) n) ≡ cells_of slots.rows places ++ more
-  cells_appended n e =
-      let first = length slots.rows in
-      map-append (λ slot. get_or new.rows slot []) places (range_with_len first n)
-      ∙ ap₂ (λ (front back : List (List ℤ)). front ++ back) (cells_stay places h.place_slots)
-      (ap₂ (λ (all : List (List ℤ)) (m : ℕ). cells_of all (range_with_len first m)) rows e ∙ cells_back slots.rows more first refl)
+pub filled_opened : (old new : SlotCells) (more : List (List ℤ)) (first : ℕ) (places left : List ℕ) → first ≡ length old.rows → new.width ≡ old.width → new.rows ≡ old.rows ++ more → new.free ≡ old.free → AreOwn old places left
+    → AreFilled more old new (range_with_len first (length more)) places left
+filled_opened old new [] first places left at wide rows free own =
+    subst (λ (slots : SlotCells). AreFilled [] old slots [] places left)
+    (ap₂ (λ (rows : List (List ℤ)) (free : List ℕ). let slots : SlotCells = record { width = old.width; rows = rows; free = free } in slots) (sym (rows ∙ append-nil old.rows)) (sym free)
+    ∙ ap (λ (width : ℕ). let slots : SlotCells = record { width = width; rows = new.rows; free = new.free } in slots) (sym wide))
+    (record {
+      own = subst (λ (xs : List ℕ). AreOwn old xs left) (sym (append-nil places)) own;
+      cells = ap (cells_of old.rows) (append-nil places) ∙ sym (append-nil (cells_of old.rows places));
+      others = refl;
+    })
+filled_opened old new (row ∷ more) first places left at wide rows free own =
+    let one : SlotCells = record { width = old.width; rows = old.rows ++ row ∷ []; free = old.free } in
+    let filled : IsFilled row old one first = record {
+      width = refl;
+      more = omega (arith, length_push old.rows row);
+      inside = omega (arith, at, length_push old.rows row);
+      here = ap (λ n. get_or (old.rows ++ row ∷ []) n []) at ∙ get_or-append_seam old.rows row [] [];
+      others = λ other below apart. get_or_append_left old.rows (row ∷ []) [] other below;
+      source = inr (refl, at);
+    } in
+    filled_then (row ∷ []) more old one new (first ∷ []) (range_with_len (first + 1) (length more)) places left (filled_one old places left own row one first filled)
+    (filled_opened one new more (first + 1) (places ++ first ∷ []) left (omega (arith, at, length_push old.rows row)) wide (rows ∙ sym (append_assoc old.rows (row ∷ []) more)) free (own_last old places left own row one first filled))

@@ -1,7 +1,7 @@
 -- The cells of slots: as the cells of one are written, and as a new one comes.
 use Rattle.std.proofs.Common.{◌≡◌, refl, ap, ap₂, sym, zero, suc, map, ◌∙◌, ℕ, ◌+◌, ◌*◌, ◌<◌, ◌≤◌, arith, List, [], ◌∷◌, ◌++◌, length, take, drop, get_or, set, ℤ, inl, inr, length-append, length-drop}
-use Rattle.std.{specs.List.range_with_len, proofs.Math.Nat.{add-mul, mul-suc}, proofs.Math.Seq.drop-append-add, proofs.lemmas.Bool.cases_lt, proofs.lemmas.Nat.row_fits, proofs.lemmas.List.{drop-take, drop_at, take_at, take_all, take-append-le, length-map, length-set, map-append, length-take-le, get_or-set_same, get_or-set_other, get_or_append_left, get_or_push, length_push, same_lists}, proofs.lemmas.List.FromFn.{length-range_with_len, get_or-map-range_with_len}, proofs.lemmas.Slice.{take-put_mid_below, drop-put_mid}}
-use Rattle.key_lists.{proofs.Every.{every_weaker, map_same}, proofs.Ranges.{each_from, range-append}}
+use Rattle.std.{specs.List.range_with_len, proofs.Math.Nat.{add-mul, mul-suc}, proofs.Math.Seq.drop-append-add, proofs.lemmas.Bool.cases_lt, proofs.lemmas.Nat.row_fits, proofs.lemmas.List.{drop-take, drop_at, take_at, take_all, take-append-le, length-map, length-set, map-append, length-take-le, get_or-set_same, get_or-set_other, same_lists}, proofs.lemmas.List.FromFn.{length-range_with_len, get_or-map-range_with_len}, proofs.lemmas.Slice.{take-put_mid_below, drop-put_mid}}
+use Rattle.key_lists.{proofs.Every.{every_weaker, map_same}, proofs.Ranges.{each_from, range-append, range_last}}
 use borrow.Rule.Slice.PartMut.{put_mid}
 use Rattle.tick_table.specs.Slots.{IsFilled, IsSlotList, SlotCells, slot_cells, slot_list}
 
@@ -14,6 +14,11 @@ length-slot_list width count cells = length-map (range_with_len 0 count) (slot_c
 
 pub at-slot_list : (width count : ℕ) (cells : List ℤ) (slot : ℕ) (d : List ℤ) → slot < count → get_or (slot_list width count cells) slot d ≡ slot_cells width cells slot
 at-slot_list width count cells slot d h = get_or-map-range_with_len (slot_cells width cells) 0 count slot slot d h (omega arith)
+
+pub slot_list-next : (width count : ℕ) (cells : List ℤ) → slot_list width (count + 1) cells ≡ slot_list width count cells ++ slot_cells width cells count ∷ []
+slot_list-next width count cells =
+    let last : 0 + count ≡ count = omega arith in
+    ap (map (slot_cells width cells)) (range_last 0 count ∙ ap (λ n. range_with_len 0 count ++ n ∷ []) last) ∙ map-append (slot_cells width cells) (range_with_len 0 count) (count ∷ [])
 
 -- the place at which the cells of a slot begin
 pub slot_within : (width count : ℕ) (cells : List ℤ) (view : SlotCells) (slot : ℕ) → length cells ≡ count * width → slot_list width count cells ≡ view.rows → slot < length view.rows
@@ -70,31 +75,7 @@ module _ (width count : ℕ) (cells row : List ℤ) (slot : ℕ) (whole : length
       length-append (take (slot * width) cells) _
       ∙ omega (arith, length-take-le (slot * width) cells (omega (arith, inside)), length-append row (drop width (drop (slot * width) cells)), length-drop width (drop (slot * width) cells), length-drop (slot * width) cells, fits, inside)
 
--- a new slot comes behind the others
-module _ (width count : ℕ) (cells row : List ℤ) (whole : length cells ≡ count * width) (fits : length row ≡ width) where
-  pub slot_list-open : slot_list width (count + 1) (cells ++ row) ≡ slot_list width count cells ++ row ∷ []
-  slot_list-open =
-      same_lists (slot_list width (count + 1) (cells ++ row)) (slot_list width count cells ++ row ∷ [])
-      (length-slot_list width (count + 1) (cells ++ row) ∙ sym (length_push (slot_list width count cells) row ∙ ap (λ n. n + 1) (length-slot_list width count cells)))
-      (λ k d less.
-      let below : k < count + 1 = omega (arith, less, length-slot_list width (count + 1) (cells ++ row)) in
-      at-slot_list width (count + 1) (cells ++ row) k d below
-      ∙ (elim (cases_lt k count) [
-        | inl first ↦
-            let ends = slot_fits k count width first in
-            sym (drop-take (k * width) width (cells ++ row))
-            ∙ ap (drop (k * width)) (take-append-le (k * width + width) cells row (omega (arith, ends, whole)))
-            ∙ drop-take (k * width) width cells
-            ∙ sym (get_or_append_left (slot_list width count cells) (row ∷ []) d k (omega (arith, first, length-slot_list width count cells)) ∙ at-slot_list width count cells k d first)
-        | inr last ↦
-            let same : k ≡ count = omega arith in
-            ap (slot_cells width (cells ++ row)) same
-            ∙ ap (take width) (drop_at cells row (count * width) whole)
-            ∙ take_all width row (omega (arith, fits))
-            ∙ sym (get_or_push (slot_list width count cells) row d k (length-slot_list width count cells ∙ sym same))
-      ]))
-
--- so do several
+-- new slots come behind the others
 module _ (width count n : ℕ) (cells rows : List ℤ) (whole : length cells ≡ count * width) where
   pub slot_list-append : slot_list width (count + n) (cells ++ rows) ≡ slot_list width count cells ++ slot_list width n rows
   slot_list-append =
@@ -120,6 +101,11 @@ module _ (width count n : ℕ) (cells rows : List ℤ) (whole : length cells ≡
       back : (n a b : ℕ) → a ≡ count + b → map (slot_cells width (cells ++ rows)) (range_with_len a n) ≡ map (slot_cells width rows) (range_with_len b n)
       back zero a b e = refl
       back (suc n) a b e = ap₂ (λ (row : List ℤ) (rest : List (List ℤ)). row ∷ rest) (here a b e) (back n (a + 1) (b + 1) (omega (arith, e)))
+
+pub slot_list-open : (width count : ℕ) (cells row : List ℤ) → length cells ≡ count * width → length row ≡ width → slot_list width (count + 1) (cells ++ row) ≡ slot_list width count cells ++ row ∷ []
+slot_list-open width count cells row whole fits =
+    let start : 0 * width ≡ 0 = omega arith in
+    slot_list-append width count 1 cells row whole ∙ ap (λ (row : List ℤ). slot_list width count cells ++ row ∷ []) (ap (λ n. take width (drop n row)) start ∙ take_all width row (omega (arith, fits)))
 
 -- there are no more slots than cells
 pub count_fits : (count width cells : ℕ) → 1 ≤ width → cells ≡ count * width → count ≤ cells

@@ -2,11 +2,12 @@
 --     cells_of rows slots      the cells of these slots
 --     uses slot slots      how often a slot stands in a list
 --     AreOwn slots places left      no slot has two rows, and a free one has none
+--     AreFilled rows old new slots places left      these slots had no row, have the cells of these rows now, and the others have those that they had
 --     paired keys rows      the rows of these cells under these keys, one key by one
 --     put_rows rows others      the others, with these rows put among them, one after the other
 --     stayed update rows      the rows that an update does not remove, where it moves them
 --     stepped update told rows      the rows after an update, where these are told
-use Rattle.std.{specs.Prelude.{ℕ, ◌+◌, ◌≤◌, ◌==◌, List, [], ◌∷◌, length, map, nat_lt, if◌then◌else◌, ℤ, slice_index_or}, specs.List.sum_by}
+use Rattle.std.{specs.Prelude.{◌≡◌, ℕ, ◌+◌, ◌≤◌, ◌==◌, List, [], ◌∷◌, ◌++◌, length, map, nat_lt, if◌then◌else◌, ℤ, slice_index_or}, specs.List.sum_by}
 use Rattle.tick_model.{specs.declared.table.PlainRow.PlainRow, specs.Updates.{Update, removing, shifting}}
 use Rattle.tick_table.specs.Slots.{AreSlots, SlotCells}
 
@@ -28,6 +29,11 @@ pub record AreOwn (slots : SlotCells) (places left : List ℕ) : Type 0 where
   pub left_slots : AreSlots (length slots.rows) left
   pub free_slots : AreSlots (length slots.rows) slots.free
   pub once : (slot : ℕ) → uses slot slots.free + uses slot left + uses slot places ≤ 1
+
+pub record AreFilled (rows : List (List ℤ)) (old new : SlotCells) (slots places left : List ℕ) : Type 0 where
+  pub own : AreOwn new (places ++ slots) left
+  pub cells : cells_of new.rows (places ++ slots) ≡ cells_of old.rows places ++ rows
+  pub others : cells_of new.rows left ≡ cells_of old.rows left
 
 abbrev pub paired : List ℕ → List (List ℤ) → List PlainRow
 paired [] rows = []

@@ -151,13 +151,7 @@ impl PlacedRows {
         self.places.len()
     }
 
-    /// Whether a slot is free for a row that comes.
-    pub(crate) fn has_free_slot(&self) -> bool {
-        self.slots.has_free()
-    }
-
-    /// Puts rows, whose cells stand one after the other, in behind all others, into new slots. After a refusal the rows are to
-    /// be given up.
+    /// Puts rows, whose cells stand one after the other, in behind all others. After a refusal the rows are to be given up.
     pub(crate) fn append(&mut self, count: usize, rows: &[i64]) -> Result<(), AllocError>
         requires { length rows.now ≡ count * self.old.width }
         ensures width { OnOk result (self.new.width ≡ self.old.width) }
@@ -165,7 +159,7 @@ impl PlacedRows {
         ensures left { OnOk result (self.new.left ≡ self.old.left) }
         ensures saved { OnOk result (self.new.saved ≡ self.old.saved) }
     {
-        let slots = self.slots.open_all(count, rows)?;
+        let slots = self.slots.fill_all(count, rows)?;
         self.places.extend_from_slice(&slots)?;
         Ok(())
     }

@@ -1,7 +1,8 @@
 //! Slots that hold the cells of rows, one slot after the other.
 
-ghost use Rattle.std.specs.Prelude.{◌≡◌, ◌+◌, ◌*◌, ◌^◌, ◌<◌, ◌≤◌, ◌==◌, [], ◌∷◌, ◌++◌, length, not, take, drop, set, slice_index_or, IfOk, OnOk, OnErr};
+ghost use Rattle.std.specs.Prelude.{ℕ, ◌≡◌, ◌+◌, ◌*◌, ◌^◌, ◌<◌, ◌≤◌, List, [], ◌∷◌, ◌++◌, length, take, drop, set, slice_index_or, IfOk, OnOk, OnErr};
 ghost use Rattle.std.specs.List.{range_with_len};
+ghost use Rattle.tick_table.specs.Placed.{AreFilled, AreOwn};
 ghost use Rattle.tick_table.specs.Slots.{AreSlots, IsFilled, slot_list};
 
 use std::alloc::{AllocError, Global};
@@ -109,21 +110,34 @@ impl Slots {
         Ok(slot)
     }
 
-    /// Whether a slot is free.
-    pub(crate) fn has_free(&self) -> bool
-        ensures { result ≡ not (length self.now.free == 0) }
+    /// Puts the cells of rows, one row after the other, into slots, and gives these: those that are free first. After a refusal
+    /// no slot has two rows.
+    pub(crate) fn fill_all(&mut self, count: usize, rows: &[i64]) -> Result<Vec<usize>, AllocError>
+        requires { length rows.now ≡ count * self.old.width }
+        ensures width { self.new.width ≡ self.old.width }
+        ensures filled { IfOk result (λ slots. (places left : List ℕ) → AreOwn self.old places left
+            → AreFilled (slot_list self.old.width count rows.now) self.old self.new slots.items places left) }
+        ensures refused { OnErr result ((places left : List ℕ) → AreOwn self.old places left → AreOwn self.new places left) }
     {
-        !self.free.is_empty()
+        if self.free.is_empty() {
+            return self.open_all(count, rows);
+        }
+        let width = self.width;
+        let mut slots = Vec::with_capacity(*self.cells.allocator(), count)?;
+        for place in 0..count {
+            let slot = self.fill(row_at(rows, place, width))?;
+            slots.push(slot)?;
+        }
+        Ok(slots)
     }
 
     /// Puts the cells of rows, one row after the other, into new slots, and gives these, with room for a quarter more behind them:
     /// the rows that come next then find it. After a refusal all is as it was.
-    pub(crate) fn open_all(&mut self, count: usize, rows: &[i64]) -> Result<Vec<usize>, AllocError>
+    fn open_all(&mut self, count: usize, rows: &[i64]) -> Result<Vec<usize>, AllocError>
         requires { length rows.now ≡ count * self.old.width }
-        ensures slots { IfOk result (λ slots. slots.items ≡ range_with_len (length self.old.rows) count) }
         ensures width { self.new.width ≡ self.old.width }
-        ensures rows { OnOk result (self.new.rows ≡ self.old.rows ++ slot_list self.old.width count rows.now) }
-        ensures free { self.new.free ≡ self.old.free }
+        ensures filled { IfOk result (λ slots. (places left : List ℕ) → AreOwn self.old places left
+            → AreFilled (slot_list self.old.width count rows.now) self.old self.new slots.items places left) }
         ensures refused { OnErr result (self.new ≡ self.old) }
     {
         let slots = slots_from(*self.cells.allocator(), self.count, count)?;

@@ -154,15 +154,12 @@ fn add_rows<'a>(
     Ok(rest)
 }
 
-/// Whether the keys that have no row come behind all others, and each of their rows gets a new slot.
+/// Whether the keys that have no row come behind all others.
 fn come_behind(placed: &PlacedRows, rows: &RowSet, added: &RowSet) -> bool
     requires own { AllByRecursion (λ key. IsTrue (is_among key rows.now)) added.now }
     requires count { length placed.now.rows ≡ length (without added.now rows.now) }
     ensures { OnTrue result (rows.now ≡ without added.now rows.now ++ added.now) }
 {
-    if placed.has_free_slot() {
-        return false;
-    }
     match added.first() {
         Some(first) => rows.count_below(first) == placed.len() as u64,
         None => false,
