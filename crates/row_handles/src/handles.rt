@@ -55,6 +55,16 @@ impl Handles {
         self.index.handle_at(key)
     }
 
+    /// The handle of the row under a key, or None where there is none, for rows that are asked for by rising keys: `near` keeps how
+    /// many blocks begin at the last key or before it, and where it is so of this key too, the one binary search is in the block.
+    /// From any number, as 0, the handle is right.
+    pub fn handle_near(&self, key: u64, near: &mut usize) -> Option<Handle>
+        ensures handle { result ≡ handle_under key self.now }
+        ensures rows { AreHandled self.now }
+    {
+        self.index.handle_near(key, near)
+    }
+
     /// The key of the row with a handle: two reads and a subtraction.
     pub fn key_of(&self, handle: Handle) -> u64
         requires { IsSome (key_with handle self.now) }

@@ -65,6 +65,20 @@ pub(crate) fn begun_by(blocks: &[RowBlock], key: u64) -> usize
     low
 }
 
+/// As many of the blocks as `begun_by` counts. Where that is `near` of them, no block but two is looked at.
+fn begun_near(blocks: &[RowBlock], key: u64, near: usize) -> usize
+    requires sound { AllByRecursion IsBlock blocks.now }
+    requires ascend { Ascend (rows blocks.now) }
+    ensures within { result ≤ length blocks.now }
+    ensures begun { AllByRecursion (λ block. block.first ≤ key) (take result blocks.now) }
+    ensures others { AllByRecursion (λ block. key < block.first) (drop result blocks.now) }
+{
+    match (blocks.get(near.saturating_sub(1)), blocks.get(near)) {
+        (Some(last), Some(next)) if last.first <= key && key < next.first => near,
+        _ => begun_by(blocks, key),
+    }
+}
+
 /// A number of a row or a block in 32 bits: memory runs out before there are more of them.
 pub fn short(number: usize) -> Result<u32, AllocError>
     ensures { IfOk result (λ short. short ≡ number) }
@@ -89,7 +103,26 @@ impl HandleIndex {
         requires { IsIndex self.now }
         ensures { result ≡ handle_under key (rows self.now.blocks.items) }
     {
-        let next = begun_by(&self.blocks, key);
+        self.handle_begun(key, begun_by(&self.blocks, key))
+    }
+
+    /// The handle of the row under a key. So many blocks as `near` begin at the last key or before it, and then at this one.
+    pub(crate) fn handle_near(&self, key: u64, near: &mut usize) -> Option<usize>
+        requires { IsIndex self.now }
+        ensures { result ≡ handle_under key (rows self.now.blocks.items) }
+    {
+        *near = begun_near(&self.blocks, key, *near);
+        self.handle_begun(key, *near)
+    }
+
+    /// The handle of the row under a key, where so many of the blocks begin at it or before it.
+    fn handle_begun(&self, key: u64, next: usize) -> Option<usize>
+        requires sound { IsIndex self.now }
+        requires within { next ≤ length self.now.blocks.items }
+        requires begun { AllByRecursion (λ block. block.first ≤ key) (take next self.now.blocks.items) }
+        requires others { AllByRecursion (λ block. key < block.first) (drop next self.now.blocks.items) }
+        ensures { result ≡ handle_under key (rows self.now.blocks.items) }
+    {
         if next == 0 {
             return None;
         }
