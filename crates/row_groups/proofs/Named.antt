@@ -1,8 +1,9 @@
 -- The numbers of the groups, as they are shown.
 use Rattle.std.proofs.Common.{◌≡◌, ◌≢◌, refl, ap, sym, ◌∙◌, subst, ℕ, zero, suc, ◌+◌, List, [], ◌∷◌, length, map, get_or, Option, Some, None, IfSome, IsSome, option_map, arith, ℤ}
 use Rattle.std.proofs.lemmas.Option.{none-some, same_Some}
+use Rattle.row_handles.specs.Entries.{handle_under}
 use Rattle.slab.{specs.Slab.{entries_from, get, slab_len}, proofs.SlabLemmas.length-entries}
-use Rattle.row_groups.{specs.declared.index.GroupIndex.GroupIndex, specs.declared.lists.KeyedRows.KeyedRows, specs.Members.{IsNumberOf, IsPart, group_of, name_at}, specs.Rows.{ByNumber, cells_with, group_rows, members_of, number_under, rows_of, slots_under}, specs.Slots.{IsGroup, member_at}, specs.Indexes.{IsIndex, names_of, numbered_of}, proofs.Keys.{ascending, known_all}, proofs.Listed.{numbered_under, under_none, with_group, with_rows}, proofs.Groupings.{group_members, listed_group, listed_members}, proofs.Indexed.no_slots}
+use Rattle.row_groups.{specs.declared.index.GroupIndex.GroupIndex, specs.declared.lists.KeyedRows.KeyedRows, specs.Members.{IsNumberOf, IsNumberUnder, IsPart, group_of, name_at}, specs.Kept.kept_in, specs.Rows.{ByNumber, IsKept, cells_in, cells_with, group_rows, members_of, number_under, rows_of, slots_under}, specs.Slots.{IsGroup, member_at}, specs.Indexes.{IsIndex, names_of, numbered_of}, proofs.Keys.{ascending, known_all, under_has}, proofs.Listed.{numbered_under, under_none, with_group, with_rows}, proofs.Groupings.{group_members, listed_group, listed_members, under_same}, proofs.Indexed.{no_slots, some_cells}}
 
 names_at : (slots : List (Option KeyedRows)) (n : ℕ) → get_or (map (option_map (λ (group : KeyedRows). group.cells.items)) slots) n None ≡ option_map (λ (group : KeyedRows). group.cells.items) (get_or slots n None)
 names_at [] n = refl
@@ -63,6 +64,14 @@ module _ (index : GroupIndex) (is : IsIndex index) where
   number_is n cells e =
       let own = name_is n index.lists.groups ∙ e in
       record { own = own; alone = λ other f. one_number other n cells f own }
+
+  -- the number that is kept of the row under a key
+  pub number_kept : (key handle : ℕ) → handle_under key index.handles ≡ Some handle → IsNumberUnder (numbered_of index) key (kept_in index.table handle).number
+  number_kept key handle here cells named =
+      let groups = index.lists.groups in
+      let kept = under_has (λ x. IsKept index.width index.table groups x.handle) key handle index.handles is.kept here in
+      let same : cells_in index.table groups handle ≡ cells = same_Some _ _ (sym (under_same (λ member. member.cells) (cells_in index.table groups) key index.table groups index.handles (λ x. refl) ∙ ap (option_map (cells_in index.table groups)) here) ∙ named) in
+      number_is (kept_in index.table handle).number cells (some_cells (cells_with (kept_in index.table handle).number groups) kept.there ∙ ap Some same)
 
   pub found_is : (cells : List ℤ) (found : Option ℕ) → number_under cells index.lists.numbers ≡ found → IfSome found (λ n. IsNumberOf n cells (names_of index.lists.groups))
   found_is cells None e = tt

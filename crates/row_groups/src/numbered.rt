@@ -186,11 +186,21 @@ impl NumberedGroups {
         requires { AllByRecursion (λ key. IsSome (member_under key self.now.members)) keys.now }
         ensures { IfOk result (λ numbers. AllZip (IsNumberUnder self.now) keys.now numbers.items) }
     {
-        let mut numbers = Vec::new(alloc);
+        let mut numbers = Vec::with_capacity(alloc, keys.len() as usize)?;
+        let mut near = 0;
         for key in keys {
-            numbers.push(self.number_of(key))?;
+            numbers.push(self.next_number(key, &mut near))?;
         }
         Ok(numbers)
+    }
+
+    /// The number of the group of the row under a key that rises from call to call, by which the row is found near the last one.
+    fn next_number(&self, key: u64, near: &mut usize) -> usize
+        requires { IsSome (member_under key self.now.members) }
+        ensures { IsNumberUnder self.now key result }
+    {
+        let handle = self.index.handles.handle_near(key, near).unwrap();
+        self.index.table.get(handle).number
     }
 
     /// Takes out the rows under these keys, whose groups have these numbers and whose `at` is this. It takes no memory, and
