@@ -1,26 +1,10 @@
 -- The rows that are noted of the touched groups.
 use Rattle.std.proofs.Common.{◌≡◌, refl, ap, ap₂, sym, ◌∙◌, Bool, true, false, ℕ, zero, suc, ◌+◌, ◌-◌, ◌*◌, ◌<◌, ◌≤◌, zero-add, arith, List, [], ◌∷◌, ◌++◌, length, take, drop, Some, ℤ, slice_range, if◌then◌else◌, Ok, Err}
 use Rattle.std.{specs.List.AllByRecursion, specs.Prelude.{flat_map, slice_get}, specs.Result.result_ok, proofs.Math.Nat.mul-le-mul_left, proofs.lemmas.List.length-append, proofs.lemmas.Option.{none-some, same_Some}}
-use Rattle.key_lists.{specs.Keys.{is_among, IsRising}, proofs.Every.every_weaker, proofs.Parts.take_front}
+use Rattle.key_lists.{specs.Keys.{is_among, IsRising}, proofs.Parts.take_front}
 use Rattle.row_set.{specs.Sets.{count_below, found}, proofs.Lookups.count_at}
-use Rattle.tick_laws.{proofs.ResultTables.result_table, proofs.ToldRows.cells_of_row}
-use Rattle.tick_model.{specs.Agg.agg_table, specs.declared.plan.Agg.Agg, specs.declared.plan.Op.TheVariants.Agg as Aggregated, specs.declared.table.PlainRow.PlainRow, specs.declared.table.PlainTable.PlainTable, specs.Tables.{cells_at, keys, IsRow, IsTable}}
-use Rattle.agg_by.{specs.declared.notes.PriorRows.PriorRows, specs.Notes.IsNoted, specs.Steps.first_keys, proofs.GroupRows.keys-agg}
-
-pub agg_is_table : (by : List ℕ) (aggs : List Agg) (table : PlainTable) → IsTable table → IsTable (agg_table by aggs table)
-agg_is_table by aggs table t = result_table (Aggregated 0 by aggs) (λ _. table) (t, tt) tt
-
--- the rows of first keys are whole
-pub whole_rows : (by : List ℕ) (aggs : List Agg) (table : PlainTable) → IsTable table → (firsts : List ℕ) → AllByRecursion (λ key. is_among key (first_keys by table.rows) ≡ true) firsts
-    → AllByRecursion (λ key. length (cells_at key (agg_table by aggs table).rows) ≡ length by + length aggs) firsts
-whole_rows by aggs table t firsts there =
-    let width = length by + length aggs in
-    every_weaker (λ key. is_among key (first_keys by table.rows) ≡ true) (λ key. length (cells_at key (agg_table by aggs table).rows) ≡ width) firsts
-    (λ key own.
-    cells_of_row (λ (cells : List ℤ). length cells ≡ width) key (agg_table by aggs table).rows
-    (every_weaker (IsRow width) (λ (row : PlainRow). length row.cells ≡ width) (agg_table by aggs table).rows (λ row is. is.whole) (agg_is_table by aggs table t).rows)
-    (ap (is_among key) (keys-agg by aggs table) ∙ own))
-    there
+use Rattle.tick_model.{specs.declared.table.PlainTable.PlainTable, specs.Tables.{cells_at, keys}}
+use Rattle.agg_by.{specs.declared.notes.PriorRows.PriorRows, specs.Notes.IsNoted}
 
 -- all of them together
 pub length_noted : (f : ℕ → List ℤ) (width : ℕ) (keys : List ℕ) → AllByRecursion (λ key. length (f key) ≡ width) keys → length (flat_map f keys) ≡ length keys * width

@@ -1,15 +1,15 @@
 -- A whole step: what is kept before it, and what it reads.
-use Rattle.std.proofs.Common.{◌≡◌, refl, ap, ap₂, sym, ◌∙◌, subst, Bool, true, false, not, cond, ℕ, suc, ◌+◌, ◌*◌, ◌^◌, ◌≤◌, arith, List, [], ◌∷◌, map, filter, length, None}
+use Rattle.std.proofs.Common.{◌≡◌, refl, ap, ap₂, sym, ◌∙◌, subst, Bool, true, false, not, cond, ℕ, suc, ◌+◌, ◌*◌, ◌≤◌, arith, List, [], ◌∷◌, map, filter, length, None}
 use Rattle.std.{specs.List.{AllByRecursion, list_any}, proofs.lemmas.Bool.and_parts, proofs.lemmas.List.{length-append, length-map}, proofs.Math.Nat.mul-le-mul_left}
 use Rattle.key_lists.{specs.Keys.{is_among, IsRising, without}, proofs.Among.each_among, proofs.Every.{every_unmapped, every_weaker, every-filter, every-map, filter_passes}, proofs.Rising.{as_filter, rising-filter, rising_some}}
+use Rattle.row_changes.specs.Parts.{AreThere}
 use Rattle.row_groups.specs.Members.{Grouped, Numbered, groups_of}
 use Rattle.row_set.proofs.United.{length-united}
 use Rattle.shown_rows.proofs.Restricted.{kept, modified_even}
 use Rattle.table_update.specs.Kept.{old_modified}
-use Rattle.tick_model.{specs.declared.plan.Agg.Agg, specs.declared.table.PlainRow.PlainRow, specs.declared.table.PlainTable.PlainTable, specs.declared.update.KeyPair.KeyPair, specs.Rules.update_fault, specs.Tables.{keys, IsTable}, specs.Updates.{between, kept_pair, new_keys}}
-use Rattle.tick_laws.specs.Checked.{keys_after}
-use Rattle.tick_table.{proofs.Between.{between_lawful, keys_after_between}, specs.Exact.{IsExact, counted}, specs.Ticking.Ticking}
-use Rattle.agg_by.{specs.Aggregator.IsColumn, specs.declared.kept.AggIndex.AggIndex, specs.declared.running.Accumulator.Accumulator, specs.declared.running.Accumulator.TheVariants.{Count, Sum, Min, Max, First, Last}, specs.Answers.IsWithin, specs.Kept.{AnswerAll, Are, IsMade, Keeps, agg_of, indexed}, specs.Steps.{come, first_keys, gone, is_touched, key_at, starts, staying, stays, touched_cells, touched_firsts}, proofs.FirstKeys.{few_firsts, first_keys_rise, firsts_are}, proofs.GroupParts.{is_tick, staying_is, tick, touched}, proofs.GroupRows.keys-agg}
+use Rattle.tick_model.{specs.Agg.agg_table, specs.declared.plan.Agg.Agg, specs.declared.table.PlainRow.PlainRow, specs.declared.table.PlainTable.PlainTable, specs.declared.update.KeyPair.KeyPair, specs.Tables.{keys, IsTable}, specs.Updates.{kept_pair, new_keys}}
+use Rattle.tick_table.{specs.Exact.{IsExact, counted}, specs.Ticking.Ticking}
+use Rattle.agg_by.{specs.Aggregator.IsColumn, specs.declared.kept.AggIndex.AggIndex, specs.declared.running.Accumulator.Accumulator, specs.declared.running.Accumulator.TheVariants.{Count, Sum, Min, Max, First, Last}, specs.Answers.IsWithin, specs.Kept.{AnswerAll, Are, IsMade, Keeps, agg_of, indexed}, specs.Steps.{come, first_keys, gone, is_touched, key_at, starts, staying, stays, touched_cells, touched_firsts}, proofs.FirstKeys.{few_firsts, first_keys_rise, firsts_are}, proofs.GroupParts.{staying_is, touched}, proofs.GroupRows.keys-agg}
 
 within_one : (width : ℕ) (running : Accumulator) → IsColumn width (agg_of running) → IsWithin width running
 within_one width Count h = tt
@@ -40,11 +40,11 @@ touched_count t e =
     omega (arith, length-united t.update.removed (old_modified (keys t.old.rows) t.update), length-united t.update.added t.update.modified, modified_even t e)
 
 -- the reads of noting, of bringing on, and of the operator's step
-pub noted_reads : (width aggs come firsts all first second third : ℕ) → second ≤ first + width * come → third ≤ second + aggs * firsts → come ≤ all → firsts ≤ all → third ≤ first + (width + aggs) * all
-noted_reads width aggs come firsts all first second third h k few fewer = omega (arith, h, k, mul-le-mul_left width few, mul-le-mul_left aggs fewer)
+pub noted_reads : (width own come firsts all first second third : ℕ) → second ≤ first + width * come → third ≤ second + own * firsts → come ≤ all → firsts ≤ all → third ≤ first + (width + own) * all
+noted_reads width own come firsts all first second third h k few fewer = omega (arith, h, k, mul-le-mul_left width few, mul-le-mul_left own fewer)
 
-pub wider_reads : (width by aggs first last all out : ℕ) → last ≤ first + 3 * (width + aggs) * all → last ≤ first + 4 * (width + (by + aggs)) * (all + out)
-wider_reads width by aggs first last all out h = omega (arith, h)
+pub wider_reads : (width own first last all out : ℕ) → last ≤ first + 3 * (width + own) * all → last ≤ first + 4 * (width + own) * (all + out)
+wider_reads width own first last all out h = omega (arith, h)
 
 touched_few : (by : List ℕ) (t : Ticking) → length (touched_cells by t) ≡ length (gone t) + length (come t)
 touched_few by t =
@@ -56,21 +56,17 @@ pub firsts_few : (by : List ℕ) (t : Ticking) → IsExact t → (rows : Numbere
 firsts_few by t e rows firsts rising found = omega (arith, few_firsts rows.members (touched_cells by t) firsts rising found, touched_few by t, touched_count t e)
 
 -- the reads of a whole step, as far as it goes: its groups are noted, they are brought on, and their change is made
-module _ (t : Ticking) (e : IsExact t) (begun : AggIndex) (aggs : List Agg) (same : begun.aggs ≡ aggs) (first second third : ℕ)
-    (noted : second ≤ first + (t.new.width + length begun.aggs) * counted t.update) (brought : third ≤ second + t.new.width * counted t.update) where
-  step_reads : (fourth firsts : ℕ) → fourth ≤ third + 2 * length begun.aggs * firsts → firsts ≤ counted t.update → fourth ≤ first + 3 * (t.new.width + length aggs) * counted t.update
-  step_reads fourth firsts h few =
-      subst (λ (aggs : List Agg). fourth ≤ first + 3 * (t.new.width + length aggs) * counted t.update) same
-      (omega (arith, noted, brought, h, mul-le-mul_left (length begun.aggs) few))
+module _ (t : Ticking) (e : IsExact t) (own first second third : ℕ) (noted : second ≤ first + (t.new.width + own) * counted t.update) (brought : third ≤ second + t.new.width * counted t.update) where
+  pub brought_reads : third ≤ first + 3 * (t.new.width + own) * counted t.update
+  brought_reads = omega (arith, noted, brought)
 
-  pub brought_reads : third ≤ first + 3 * (t.new.width + length aggs) * counted t.update
-  brought_reads = step_reads third 0 (omega arith) (omega arith)
-
-  pub changed_reads : (after : AggIndex) → IsMade begun after → (firsts : List ℕ) → IsRising firsts → ((first : ℕ) → is_among first firsts ≡ list_any (starts after.rows.members first) (touched_cells begun.by t))
-      → (fourth : ℕ) → fourth ≤ third + 2 * length after.aggs * length firsts → fourth ≤ first + 3 * (t.new.width + length aggs) * counted t.update
-  changed_reads after made firsts rising found fourth h =
-      step_reads fourth (length firsts) (subst (λ (aggs : List Agg). fourth ≤ third + 2 * length aggs * length firsts) made.aggs h)
-      (firsts_few begun.by t e after.rows firsts rising found)
+  pub changed_reads : (before begun after : AggIndex) → IsMade before begun → IsMade begun after → own ≡ length before.by + length before.aggs → (firsts : List ℕ) → IsRising firsts
+      → ((first : ℕ) → is_among first firsts ≡ list_any (starts after.rows.members first) (touched_cells begun.by t)) → (fourth : ℕ) → fourth ≤ third + 2 * length after.aggs * length firsts → fourth ≤ first + 3 * (t.new.width + own) * counted t.update
+  changed_reads before begun after made brought_on wide firsts rising found fourth h =
+      omega (arith, noted, brought, h, mul-le-mul_left (length after.aggs) (firsts_few begun.by t e after.rows firsts rising found), mul-le-mul_left (counted t.update) few)
+    where
+      few : length after.aggs ≤ own
+      few = omega (arith, wide, ap length (brought_on.aggs ∙ made.aggs))
 
 -- what is found among the rows by what is kept of them
 pub found_firsts : (by : List ℕ) (t : Ticking) (table : PlainTable) → IsTable table → (index : Grouped) (firsts : List ℕ) → index ≡ indexed by None table.rows → IsRising firsts
@@ -78,17 +74,13 @@ pub found_firsts : (by : List ℕ) (t : Ticking) (table : PlainTable) → IsTabl
 found_firsts by t table is index firsts are rising found =
     firsts_are by table is (touched_cells by t) firsts rising (λ first. found first ∙ ap (λ (index : Grouped). list_any (starts index.members first) (touched_cells by t)) are)
 
-pub touched_there : (by : List ℕ) (t : Ticking) (rows : List PlainRow) → AllByRecursion (λ key. is_among key (first_keys by rows) ≡ true) (touched_firsts by t rows)
-touched_there by t rows = every-filter (λ key. is_among key (first_keys by rows) ≡ true) (λ key. is_touched by t (key_at by rows key)) (first_keys by rows) (each_among (first_keys by rows))
+-- the rows of the touched groups are there
+pub touched_there : (by : List ℕ) (aggs : List Agg) (t : Ticking) (table : PlainTable) → AreThere (agg_table by aggs table) (touched_firsts by t table.rows)
+touched_there by aggs t table =
+    every-filter (λ key. is_among key (keys (agg_table by aggs table).rows) ≡ true) (λ key. is_touched by t (key_at by table.rows key)) (first_keys by table.rows)
+    (subst (λ ks. AllByRecursion (λ key. is_among key (keys (agg_table by aggs table).rows) ≡ true) ks) (keys-agg by aggs table) (each_among (keys (agg_table by aggs table).rows)))
 
 module _ (by : List ℕ) (aggs : List Agg) (t : Ticking) (e : IsExact t) where
-  -- the keys that are shown are brought on
-  pub shown_lawful : update_fault (2 ^ 62) (first_keys by t.old.rows) (between (tick by aggs t e)) ≡ None
-  shown_lawful = subst (λ (ks : List ℕ). update_fault (2 ^ 62) ks (between (tick by aggs t e)) ≡ None) (keys-agg by aggs t.old) (between_lawful (tick by aggs t e) (is_tick by aggs t e))
-
-  pub shown_after : keys_after (first_keys by t.old.rows) (between (tick by aggs t e)) ≡ first_keys by t.new.rows
-  shown_after = ap (λ (ks : List ℕ). keys_after ks (between (tick by aggs t e))) (sym (keys-agg by aggs t.old)) ∙ keys_after_between (tick by aggs t e) (is_tick by aggs t e) ∙ keys-agg by aggs t.new
-
   staying_among : AllByRecursion (λ key. is_among key (touched_firsts by t t.new.rows) ≡ true) (new_keys (staying by t))
   staying_among =
       every-map (λ key. is_among key (touched_firsts by t t.new.rows) ≡ true) (λ (pair : KeyPair). pair.new) (staying by t)

@@ -9,7 +9,7 @@
 --     come_cells by input, staying_cells by input      the key cells of now of the rows that come or are modified, and of the others
 --     kept_cells members key      the key cells that are kept under a key
 --     stays by input pair      whether both rows of a pair are first rows of one touched group
-use Rattle.std.{specs.Prelude.{ℕ, ◌==◌, ◌&&◌, Bool, false, not, List, [], ◌++◌, filter, map, option_map, slice_get, unwrap_or, ℤ, if◌then◌else◌}, specs.List.list_any, specs.Option.option_map_or}
+use Rattle.std.{specs.Prelude.{ℕ, ◌==◌, ◌&&◌, Bool, false, not, List, [], ◌++◌, filter, map, option_map, slice_get, unwrap_or, ℤ}, specs.List.list_any, specs.Option.option_map_or}
 use Rattle.key_lists.specs.Keys.{is_among, without}
 use Rattle.row_groups.specs.Members.{Member, group_of, keys_of, member_under}
 use Rattle.row_set.specs.Sets.{united}

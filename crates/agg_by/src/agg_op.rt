@@ -1,4 +1,4 @@
-//! An aggregation with the keys of its rows.
+//! An aggregation with its rows.
 
 ghost use Rattle.std.specs.Prelude.{◌≡◌, ◌+◌, ◌*◌, ◌≤◌, length, IfOk, OnErr};
 ghost use Rattle.agg_by.specs.Aggregator.{IsAggregator, StandsFor, grouped};
@@ -7,7 +7,6 @@ ghost use Rattle.tick_table.specs.Exact.{IsExact, counted, tick_of};
 ghost use Rattle.tick_table.specs.Ticking.{no_rows};
 
 use crate::aggregation::Aggregation;
-use row_set::RowSet;
 use std::alloc::{AllocError, Global};
 use std::marker::Model;
 use std::sync::ledger::Ledger;
@@ -19,8 +18,7 @@ use tick_table::{Change, Steps, TickTable};
 #[derive(Drop)]
 pub struct AggOp {
     aggregation: Aggregation,
-    /// The keys of the first rows of the groups.
-    shown: RowSet,
+    shown: TickTable,
 }
 
 impl Model for AggOp {
@@ -39,7 +37,7 @@ impl Model for AggOp {
       width = op.aggregation.width;
       rows = op.aggregation.rows;
       running = op.aggregation.running;
-      shown = op.shown;
+      shown = op.shown.new;
     } };
 }
 
@@ -52,9 +50,10 @@ impl AggOp {
         ensures width { result.width ≡ width }
         ensures stands { StandsFor result (no_rows width) }
     {
+        let columns = (by.len() + aggs.len()) as u32;
         AggOp {
             aggregation: Aggregation::new(alloc, by, aggs, width),
-            shown: RowSet::new(alloc),
+            shown: TickTable::empty(alloc, columns),
         }
     }
 
@@ -81,7 +80,8 @@ impl AggOp {
     {
         let AggOp { aggregation, shown } = self;
         let (aggregation, change) = aggregation.change(alloc, input, &shown, reads)?;
-        let shown = change.update.apply_to_keys(shown)?;
+        let told = change.copy(alloc)?;
+        let shown = shown.apply(told)?;
         Ok((AggOp { aggregation, shown }, change))
     }
 }

@@ -3,7 +3,6 @@
 ghost use Rattle.std.specs.Prelude.{◌≡◌, ℕ, ◌+◌, ◌*◌, ◌<◌, ◌≤◌, [], None, length, IfOk, OnErr, OnOk};
 ghost use Rattle.std.specs.List.{AllByRecursion};
 ghost use Rattle.agg_by.specs.Aggregator.{IsAggregator, IsColumn, KeepsRows, grouped};
-ghost use Rattle.agg_by.specs.Answers.{IsWithin};
 ghost use Rattle.agg_by.specs.Kept.{Are, IsMade, Keeps, indexed};
 ghost use Rattle.agg_by.specs.Notes.{IsNoted};
 ghost use Rattle.agg_by.specs.Rows.{AreReady};
@@ -87,20 +86,19 @@ impl Aggregation {
         }
     }
 
-    /// The operator after the step that the input shows, and the change of its rows, where `shown` has the keys of those before
-    /// it. It must keep the input's rows before the step; after a refusal it is given up, and no more is read than that change
-    /// may take.
+    /// The operator after the step that the input shows, and the change of its rows, where `shown` has those before it. It must
+    /// keep the input's rows before the step; after a refusal it is given up, and no more is read than that change may take.
     pub fn change<L: Ledger>(
         self,
         alloc: Global,
         input: &TickTable,
-        shown: &RowSet,
+        shown: &TickTable,
         reads: &mut Steps<L>,
     ) -> Result<(Aggregation, Change), AllocError>
         requires exact { IsExact input.now }
         requires width { input.now.new.width ≡ self.width }
         requires keeps { KeepsRows self input.now.old }
-        requires shown { shown.now ≡ first_keys self.by input.now.old.rows }
+        requires shown { shown.now.new ≡ agg_table self.by self.aggs input.now.old }
         ensures by { IfOk result (λ out. out.0.by ≡ self.by) }
         ensures aggs { IfOk result (λ out. out.0.aggs ≡ self.aggs) }
         ensures width { IfOk result (λ out. out.0.width ≡ self.width) }
@@ -144,12 +142,12 @@ impl Aggregation {
     }
 }
 
-/// Brings all that is kept on by a step. Gives the change of the rows of the groups, where `shown` has their keys before it,
-/// and the room for notes.
+/// Brings all that is kept on by a step. Gives the change of the rows of the groups, where `shown` has them before it, and the
+/// room for notes.
 fn grouped_step<L: Ledger>(
     alloc: Global,
     kept: &mut AggIndex,
-    shown: &RowSet,
+    shown: &TickTable,
     key_cells: &mut Vec<i64>,
     touched: &mut TouchedGroups,
     led: &mut Vec<LedGroup>,
@@ -163,16 +161,16 @@ fn grouped_step<L: Ledger>(
     requires columns { AllByRecursion (IsColumn input.now.new.width) kept.old.aggs }
     requires rows { groups_of kept.old.rows ≡ indexed kept.old.by None input.now.old.rows }
     requires running { Are kept.old.by kept.old.rows.names kept.old.aggs input.now.old.rows kept.old.running.items }
-    requires shown { shown.now ≡ first_keys kept.old.by input.now.old.rows }
+    requires shown { shown.now.new ≡ agg_table kept.old.by kept.old.aggs input.now.old }
     ensures made { OnOk result (IsMade kept.old kept.new) }
     ensures keeps { OnOk result (Keeps kept.new input.now.new.rows) }
     ensures change { IfOk result (λ out. out.0 ≡ change_of (grouped kept.old.by kept.old.aggs (tick_of input.now))) }
-    ensures reads { reads.new ≤ reads.old + 3 * (input.now.new.width + length kept.old.aggs) * counted input.now.update }
+    ensures reads { reads.new ≤ reads.old + 3 * (input.now.new.width + shown.now.new.width) * counted input.now.update }
 {
     kept.begin(alloc)?;
     let leaving = Leaving::of(alloc, kept, input)?;
     let notes = noted_groups(
-        alloc, kept, input, &leaving, touched, led, key_cells, noted, reads,
+        alloc, kept, input, shown, &leaving, touched, led, key_cells, noted, reads,
     )?;
     kept.bring_on(input, &leaving, touched, key_cells, reads)?;
     let firsts = find_led(alloc, &kept.rows, touched.numbers(), led)?;
@@ -182,15 +180,16 @@ fn grouped_step<L: Ledger>(
         led: led.as_slice(),
         notes: &notes,
     };
-    let change = group_change(alloc, &rows, firsts, shown, reads)?;
+    let change = group_change(alloc, &rows, firsts, shown.rows(), reads)?;
     Ok((change, notes.into_cells()))
 }
 
-/// Notes the groups that the step touches, and their rows before it.
+/// Notes the groups that the step touches, and their rows before it, which `shown` has.
 fn noted_groups<L: Ledger>(
     alloc: Global,
     kept: &AggIndex,
     input: &TickTable,
+    shown: &TickTable,
     leaving: &Leaving,
     touched: &mut TouchedGroups,
     led: &mut Vec<LedGroup>,
@@ -199,18 +198,17 @@ fn noted_groups<L: Ledger>(
     reads: &mut Steps<L>,
 ) -> Result<PriorRows, AllocError>
     requires exact { IsExact input.now }
-    requires few { length kept.now.by + length kept.now.aggs ≤ 32 }
-    requires keeps { Keeps kept.now input.now.old.rows }
-    requires within { AllByRecursion (IsWithin input.now.old.width) kept.now.running.items }
+    requires rows { groups_of kept.now.rows ≡ indexed kept.now.by None input.now.old.rows }
+    requires shown { shown.now.new ≡ agg_table kept.now.by kept.now.aggs input.now.old }
     requires leaving { AreLeaving leaving.now kept.now.by kept.now.rows input.now }
     ensures touched { OnOk result (HaveNoted kept.now.rows [] touched.new (touched_cells kept.now.by input.now)) }
     ensures noted { IfOk result (λ notes. IsNoted notes (agg_table kept.now.by kept.now.aggs input.now.old)) }
     ensures keys { IfOk result (λ notes. notes.keys ≡ touched_firsts kept.now.by input.now input.now.old.rows) }
-    ensures reads { reads.new ≤ reads.old + (input.now.new.width + length kept.now.aggs) * counted input.now.update }
+    ensures reads { reads.new ≤ reads.old + (input.now.new.width + shown.now.new.width) * counted input.now.update }
 {
     touched.note_before(kept, input, leaving, key_cells, reads)?;
     let before = find_led(alloc, &kept.rows, touched.numbers(), led)?;
-    PriorRows::take(kept, input, before, led.as_slice(), noted, reads)
+    PriorRows::take(before, shown, noted, reads)
 }
 
 /// The change of the rows of the groups, where `firsts` has the keys of the first rows of the touched groups now, and `shown`

@@ -34,6 +34,6 @@ impl TableOperator for Aggregation {
         inputs: &[Shared],
         reads: &mut Steps<L>,
     ) -> Result<(Aggregation, Change), StepFault> {
-        Ok(self.change(alloc, one_input(inputs), own.rows(), reads)?)
+        Ok(self.change(alloc, one_input(inputs), own, reads)?)
     }
 }

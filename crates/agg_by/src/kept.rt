@@ -12,7 +12,6 @@ ghost use Rattle.tick_model.specs.Updates.{removing, shifting};
 ghost use Rattle.tick_model.specs.declared.table.PlainRow.{PlainRow};
 ghost use Rattle.tick_table.specs.Exact.{IsExact, counted};
 ghost use Rattle.agg_by.specs.Answers.{IsWithin};
-ghost use Rattle.tick_table.specs.Versions.{table_in};
 ghost use Rattle.agg_by.specs.Steps.{first_keys, keeps_groups, kept_cells, key_at, starts, staying_cells, touched_cells};
 ghost use Rattle.agg_by.specs.Touched.{AreLeaving, AreLed, AreNoted, HaveNoted, starts_numbered, with_number};
 
@@ -27,7 +26,7 @@ use std::sync::ledger::Ledger;
 use tick_model::cells::cell;
 use tick_model::items::Items;
 use tick_model::plan::Agg;
-use tick_table::{Steps, TickTable, Version};
+use tick_table::{Steps, TickTable};
 
 /// The rows of an input by their key cells, and what answers each aggregate.
 #[derive(Drop)]
@@ -284,10 +283,10 @@ impl AggIndex {
         Ok(())
     }
 
-    /// Puts the row of a group, whose first row has this key, behind other cells. It is likely to be the one at this place of `led`.
+    /// Puts the row of now of a group, whose first row has this key, behind other cells. It is likely to be the one at this
+    /// place of `led`.
     pub(crate) fn put_group<L: Ledger>(
         &self,
-        version: Version,
         input: &TickTable,
         first: u64,
         led: &[LedGroup],
@@ -295,18 +294,18 @@ impl AggIndex {
         cells: &mut Vec<i64>,
         reads: &mut Steps<L>,
     ) -> Result<(), AllocError>
-        requires table { IsTable (table_in version input.now) }
-        requires keeps { Keeps self.now (table_in version input.now).rows }
-        requires within { AllByRecursion (IsWithin (table_in version input.now).width) self.now.running.items }
-        requires here { IsTrue (is_among first (first_keys self.now.by (table_in version input.now).rows)) }
+        requires table { IsTable input.now.new }
+        requires keeps { Keeps self.now input.now.new.rows }
+        requires within { AllByRecursion (IsWithin input.now.new.width) self.now.running.items }
+        requires here { IsTrue (is_among first (first_keys self.now.by input.now.new.rows)) }
         requires led { AreLed self.now.rows led.now }
-        ensures cells { OnOk result (cells.new.items ≡ cells.old.items ++ cells_at first (agg_table self.now.by self.now.aggs (table_in version input.now)).rows) }
+        ensures cells { OnOk result (cells.new.items ≡ cells.old.items ++ cells_at first (agg_table self.now.by self.now.aggs input.now.new).rows) }
         ensures reads { reads.new ≤ reads.old + length self.now.aggs }
     {
         let number = self.number_led(first, led, place);
         let group = self.rows.group_at(number).unwrap();
         cells.extend_from_slice(group.cells())?;
-        put_values(&self.running, number, &group, version, input, cells, reads)
+        put_values(&self.running, number, &group, input, cells, reads)
     }
 
     /// The number of the group whose first row has this key. No row is looked for where the group is the one at this place of `led`.

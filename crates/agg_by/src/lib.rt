@@ -5,9 +5,10 @@
 //! greatest or the least at hand (`values`).
 //! What a step touches are the groups of the rows that come, go or are modified (`moving`), by their key cells before and now.
 //! The groups that rows leave are found once, by their numbers. Each touched group is noted once, by its number (`touched`), which
-//! gives its first row before and now, by which its row is found (`firsts`). Its row before is noted (`notes`) before the indexes are brought on (`kept`). A
-//! group that no row touches is not looked at; only its key moves with its first row. `AggOp` keeps the keys of its rows too;
-//! `Aggregation` is it without them, for a caller that has a table of these rows.
+//! gives its first row before and now, by which its row is found (`firsts`). Its row before is noted (`notes`), from the table
+//! of the operator's rows, before the indexes are brought on (`kept`). A group that no row touches is not looked at; only its
+//! key moves with its first row. `AggOp` keeps its rows too; `Aggregation` is it without them, for a caller that has a table of
+//! these rows.
 #![tactic(auto)]
 
 mod agg_op;

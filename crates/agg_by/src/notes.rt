@@ -1,24 +1,16 @@
 //! The rows of the touched groups before the step.
 
-ghost use Rattle.std.specs.Prelude.{◌≡◌, ◌+◌, ◌*◌, ◌++◌, ◌<◌, ◌≤◌, Some, None, IsTrue, IfOk, OnOk, length, option_map, slice_range, vec_len, if◌then◌else◌};
-ghost use Rattle.std.specs.List.{AllByRecursion};
-ghost use Rattle.agg_by.specs.Answers.{IsWithin};
-ghost use Rattle.agg_by.specs.Kept.{Keeps};
-ghost use Rattle.agg_by.specs.Steps.{first_keys};
-ghost use Rattle.agg_by.specs.Touched.{AreLed};
+ghost use Rattle.std.specs.Prelude.{◌≡◌, ◌+◌, ◌*◌, ◌≤◌, Some, None, IfOk, length, option_map, slice_range, vec_len, if◌then◌else◌};
 ghost use Rattle.key_lists.specs.Keys.{is_among};
-ghost use Rattle.row_changes.specs.Parts.{cells_under};
-ghost use Rattle.tick_model.specs.Agg.{agg_table};
+ghost use Rattle.row_changes.specs.Parts.{AreThere};
 ghost use Rattle.tick_model.specs.declared.table.PlainTable.{PlainTable};
-ghost use Rattle.tick_model.specs.Tables.{cells_at};
-ghost use Rattle.tick_table.specs.Exact.{IsExact};
+ghost use Rattle.tick_model.specs.Tables.{IsTable, cells_at};
 
-use crate::firsts::LedGroup;
-use crate::kept::AggIndex;
+use row_changes::Rows;
 use row_set::RowSet;
 use std::alloc::AllocError;
 use std::sync::ledger::Ledger;
-use tick_table::{Steps, TickTable, Version};
+use tick_table::{Steps, TickTable};
 
 /// The rows that some groups had, by the keys of their first rows.
 #[derive(Drop)]
@@ -33,30 +25,23 @@ pub(crate) struct PriorRows {
 impl PriorRows {
     ghost use Rattle.agg_by.specs.Notes.{IsNoted};
 
-    /// Notes the rows of the groups with these first rows, as they are before the step. `led` has the groups, `cells` is room for
-    /// their rows.
+    /// Notes the rows that a table has now under these keys. `cells` is room for them.
     pub fn take<L: Ledger>(
-        kept: &AggIndex,
-        input: &TickTable,
         keys: RowSet,
-        led: &[LedGroup],
+        table: &TickTable,
         mut cells: Vec<i64>,
         reads: &mut Steps<L>,
     ) -> Result<PriorRows, AllocError>
-        requires exact { IsExact input.now }
-        requires few { length kept.now.by + length kept.now.aggs ≤ 32 }
-        requires keeps { Keeps kept.now input.now.old.rows }
-        requires within { AllByRecursion (IsWithin input.now.old.width) kept.now.running.items }
-        requires firsts { AllByRecursion (λ key. IsTrue (is_among key (first_keys kept.now.by input.now.old.rows))) keys }
-        requires led { AreLed kept.now.rows led.now }
-        ensures noted { IfOk result (λ notes. IsNoted notes (agg_table kept.now.by kept.now.aggs input.now.old)) }
+        requires table { IsTable table.now.new }
+        requires there { AreThere table.now.new keys }
+        ensures noted { IfOk result (λ notes. IsNoted notes table.now.new) }
         ensures keys { IfOk result (λ notes. notes.keys ≡ keys) }
-        ensures reads { reads.new ≤ reads.old + length kept.now.aggs * length keys }
+        ensures reads { reads.new ≤ reads.old + table.now.new.width * length keys }
     {
         cells.clear();
-        let width = kept.by.len() + kept.aggs.len();
-        cells.reserve(led.len().saturating_mul(width))?;
-        put_groups(kept, input, &keys, led, &mut cells, reads)?;
+        let width = table.width() as usize;
+        cells.reserve((keys.len() as usize).saturating_mul(width))?;
+        table.all_now(&keys, &mut cells, reads)?;
         Ok(PriorRows { keys, cells, width })
     }
 
@@ -88,29 +73,4 @@ impl PriorRows {
         } = self;
         cells
     }
-}
-
-/// Puts the rows of the groups with these first rows, as they are before the step, behind other cells.
-fn put_groups<L: Ledger>(
-    kept: &AggIndex,
-    input: &TickTable,
-    keys: &RowSet,
-    led: &[LedGroup],
-    cells: &mut Vec<i64>,
-    reads: &mut Steps<L>,
-) -> Result<(), AllocError>
-    requires exact { IsExact input.now }
-    requires keeps { Keeps kept.now input.now.old.rows }
-    requires within { AllByRecursion (IsWithin input.now.old.width) kept.now.running.items }
-    requires firsts { AllByRecursion (λ key. IsTrue (is_among key (first_keys kept.now.by input.now.old.rows))) keys.now }
-    requires led { AreLed kept.now.rows led.now }
-    ensures cells { OnOk result (cells.new.items ≡ cells.old.items ++ cells_under (agg_table kept.now.by kept.now.aggs input.now.old) keys.now) }
-    ensures reads { reads.new ≤ reads.old + length kept.now.aggs * length keys.now }
-{
-    let mut place: usize = 0;
-    for first in keys {
-        kept.put_group(Version::Before, input, first, led, place, cells, reads)?;
-        place = place.wrapping_add(1);
-    }
-    Ok(())
 }

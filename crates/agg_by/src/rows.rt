@@ -40,15 +40,8 @@ impl GroupRows<'_> {
         ensures reads { reads.new ≤ reads.old + length self.now.kept.now.aggs }
     {
         let place = self.led.partition_point(|group| group.first < first);
-        self.kept.put_group(
-            Version::Now,
-            self.input,
-            first,
-            self.led,
-            place,
-            cells,
-            reads,
-        )
+        self.kept
+            .put_group(self.input, first, self.led, place, cells, reads)
     }
 }
 

@@ -5,7 +5,6 @@ ghost use Rattle.std.specs.List.{AllByRecursion};
 ghost use Rattle.std.specs.Option.{ForSome};
 ghost use Rattle.agg_by.specs.Answers.{HasRow, IsWithin, answer, cell_of, with_row, without_row};
 ghost use Rattle.agg_by.specs.Kept.{AnswerAll, Answers, agg_of};
-ghost use Rattle.tick_table.specs.Versions.{table_in};
 ghost use Rattle.key_lists.specs.Keys.{is_among};
 ghost use Rattle.row_groups.specs.Members.{Names, keys_of};
 ghost use Rattle.tick_model.specs.Tables.{keys};
@@ -19,7 +18,7 @@ use std::sync::ledger::Ledger;
 use tick_model::cells::cell;
 use tick_model::formula::NULL;
 use tick_model::plan::Agg;
-use tick_table::{Steps, TickTable, Version};
+use tick_table::{Steps, TickTable};
 
 /// An aggregate with what is kept for it besides the rows by their groups.
 #[derive(Drop)]
@@ -81,14 +80,13 @@ impl Accumulator {
         &self,
         number: usize,
         group: &Group<'_>,
-        version: Version,
         input: &TickTable,
         reads: &mut Steps<L>,
     ) -> i64
         requires few { length group.now ≤ 2 ^ 62 }
-        requires within { IsWithin (table_in version input.now).width self.now }
-        requires here { AllByRecursion (λ key. IsTrue (is_among key (keys (table_in version input.now).rows))) (keys_of group.now) }
-        ensures answer { result ≡ answer self.now number group.now (table_in version input.now).rows }
+        requires within { IsWithin input.now.new.width self.now }
+        requires here { AllByRecursion (λ key. IsTrue (is_among key (keys input.now.new.rows))) (keys_of group.now) }
+        ensures answer { result ≡ answer self.now number group.now input.now.new.rows }
         ensures reads { reads.new ≤ reads.old + 1 }
     {
         match self {
@@ -98,12 +96,8 @@ impl Accumulator {
             Accumulator::Max(_, values) => values
                 .get(number)
                 .map_or(NULL, |values| values.greatest()),
-            Accumulator::First(column) => {
-                cell_or_null(group.first_key(), *column, version, input, reads)
-            }
-            Accumulator::Last(column) => {
-                cell_or_null(group.last_key(), *column, version, input, reads)
-            }
+            Accumulator::First(column) => { cell_or_null(group.first_key(), *column, input, reads) }
+            Accumulator::Last(column) => { cell_or_null(group.last_key(), *column, input, reads) }
         }
     }
 }
@@ -112,20 +106,16 @@ impl Accumulator {
 fn cell_or_null<L: Ledger>(
     key: Option<u64>,
     column: u32,
-    version: Version,
     input: &TickTable,
     reads: &mut Steps<L>,
 ) -> i64
-    requires column { column < (table_in version input.now).width }
-    requires here { ForSome key (λ key. IsTrue (is_among key (keys (table_in version input.now).rows))) }
-    ensures cell { result ≡ cell_of (table_in version input.now).rows column key }
+    requires column { column < input.now.new.width }
+    requires here { ForSome key (λ key. IsTrue (is_among key (keys input.now.new.rows))) }
+    ensures cell { result ≡ cell_of input.now.new.rows column key }
     ensures reads { reads.new ≤ reads.old + 1 }
 {
     match key {
-        Some(key) => match version {
-            Version::Before => input.prev_cell(column, key, reads),
-            Version::Now => input.cell(column, key, reads),
-        },
+        Some(key) => input.cell(column, key, reads),
         None => NULL,
     }
 }
@@ -146,20 +136,19 @@ pub(crate) fn put_values<L: Ledger>(
     all: &[Accumulator],
     number: usize,
     group: &Group<'_>,
-    version: Version,
     input: &TickTable,
     cells: &mut Vec<i64>,
     reads: &mut Steps<L>,
 ) -> Result<(), AllocError>
     requires few { length group.now ≤ 2 ^ 62 }
-    requires within { AllByRecursion (IsWithin (table_in version input.now).width) all.now }
-    requires here { AllByRecursion (λ key. IsTrue (is_among key (keys (table_in version input.now).rows))) (keys_of group.now) }
+    requires within { AllByRecursion (IsWithin input.now.new.width) all.now }
+    requires here { AllByRecursion (λ key. IsTrue (is_among key (keys input.now.new.rows))) (keys_of group.now) }
     ensures cells { OnOk result (cells.new.items ≡ cells.old.items
-        ++ map (λ running. answer running number group.now (table_in version input.now).rows) all.now) }
+        ++ map (λ running. answer running number group.now input.now.new.rows) all.now) }
     ensures reads { reads.new ≤ reads.old + length all.now }
 {
     for running in all {
-        cells.push(running.value(number, group, version, input, reads))?;
+        cells.push(running.value(number, group, input, reads))?;
     }
     Ok(())
 }

@@ -1,25 +1,23 @@
 use Rattle.std.proofs.Common.{ap, ap₂, sym, ◌∙◌, subst, arith, List, ℕ}
-use Rattle.std.specs.List.{AllByRecursion, list_any}
+use Rattle.std.specs.List.{list_any}
 use Rattle.row_groups.specs.Members.{groups_of}
-use Rattle.tick_model.{specs.Agg.agg_table, specs.Changes.change_of, specs.declared.plan.Agg.Agg}
+use Rattle.tick_model.{specs.Agg.agg_table, specs.Changes.change_of, specs.declared.plan.Agg.Agg, specs.declared.table.PlainTable.PlainTable, specs.Tables.keys}
 use Rattle.tick_table.specs.Exact.{tick_of}
-use Rattle.agg_by.{specs.Aggregator.{IsColumn, grouped}, specs.Notes.IsNoted, specs.Steps.{starts, touched_cells, touched_firsts}, specs.Touched.{AreLed, starts_numbered}, proofs.Whole.{begun_keeps, brought_reads, changed_reads, found_firsts, within_all}}
+use Rattle.agg_by.{specs.Aggregator.grouped, specs.Notes.IsNoted, specs.Steps.{first_keys, starts, touched_cells, touched_firsts}, specs.Touched.{AreLed, starts_numbered}, proofs.GroupRows.keys-agg, proofs.Whole.{begun_keeps, brought_reads, changed_reads, found_firsts, within_all}}
 use Rattle.agg_by.proofs.aggregation.grouped_step.Goals as goal
 
 pub of-requires-clause-rows : goal.of-requires-clause-rows
 of-requires-clause-rows g c =
     (begun_keeps c.args.kept.now c.begin.new.self c.args.input.now.old.rows c.in_ok-begin.ensures.made c.in_ok-begin.ensures.rows c.in_ok-begin.ensures.running c.requires.rows c.requires.running).rows
 
-pub noted_groups-requires-clause-keeps : goal.noted_groups-requires-clause-keeps
-noted_groups-requires-clause-keeps g c =
-    begun_keeps c.args.kept.now c.begin.new.self c.args.input.now.old.rows c.in_ok-begin.ensures.made c.in_ok-begin.ensures.rows c.in_ok-begin.ensures.running c.requires.rows c.requires.running
+pub noted_groups-requires-clause-rows : goal.noted_groups-requires-clause-rows
+noted_groups-requires-clause-rows g c =
+    (begun_keeps c.args.kept.now c.begin.new.self c.args.input.now.old.rows c.in_ok-begin.ensures.made c.in_ok-begin.ensures.rows c.in_ok-begin.ensures.running c.requires.rows c.requires.running).rows
 
-pub noted_groups-requires-clause-within : goal.noted_groups-requires-clause-within
-noted_groups-requires-clause-within g c =
-    let t = c.args.input.now in
-    let keeps = begun_keeps c.args.kept.now c.begin.new.self t.old.rows c.in_ok-begin.ensures.made c.in_ok-begin.ensures.rows c.in_ok-begin.ensures.running c.requires.rows c.requires.running in
-    within_all t.old.width c.args.kept.now.aggs c.begin.new.self.running.items (keeps.running.0 ∙ c.in_ok-begin.ensures.made.aggs)
-    (subst (λ (width : ℕ). AllByRecursion (IsColumn width) c.args.kept.now.aggs) c.requires.exact.tick.one_width c.requires.columns)
+pub noted_groups-requires-clause-shown : goal.noted_groups-requires-clause-shown
+noted_groups-requires-clause-shown g c =
+    let made = c.in_ok-begin.ensures.made in
+    c.requires.shown ∙ ap₂ (λ (by : List ℕ) (aggs : List Agg). agg_table by aggs c.args.input.now.old) (sym made.by) (sym made.aggs)
 
 pub bring_on-requires-clause-keeps : goal.bring_on-requires-clause-keeps
 bring_on-requires-clause-keeps g c =
@@ -52,6 +50,11 @@ group_change-requires-clause-firsts g c =
     c.in_ok-firsts.ensures.firsts first ∙ ap (list_any (starts_numbered rows first)) c.numbers.ensures ∙ c.in_ok-bring_on.ensures.firsts first
     ∙ ap (λ (by : List ℕ). list_any (starts rows.members first) (touched_cells by t)) (sym c.in_ok-bring_on.ensures.made.by))
 
+pub group_change-requires-clause-shown : goal.group_change-requires-clause-shown
+group_change-requires-clause-shown g c =
+    c.rows.ensures.keys ∙ ap (λ (table : PlainTable). keys table.rows) c.requires.shown ∙ keys-agg c.args.kept.now.by c.args.kept.now.aggs c.args.input.now.old
+    ∙ ap (λ by. first_keys by c.args.input.now.old.rows) (sym (c.in_ok-bring_on.ensures.made.by ∙ c.in_ok-begin.ensures.made.by))
+
 pub returns-clause-change : goal.returns-clause-change
 returns-clause-change g c =
     c.in_ok-change.ensures.change
@@ -59,31 +62,26 @@ returns-clause-change g c =
 
 pub returns-in_err-notes-clause-reads : goal.returns-in_err-notes-clause-reads
 returns-in_err-notes-clause-reads g c =
-    brought_reads c.args.input.now c.requires.exact c.begin.new.self c.args.kept.now.aggs c.in_ok-begin.ensures.made.aggs
-    c.args.reads.now c.noted_groups.new.reads c.noted_groups.new.reads c.noted_groups.ensures.reads (omega arith)
+    brought_reads c.args.input.now c.requires.exact c.args.shown.now.new.width c.args.reads.now c.noted_groups.new.reads c.noted_groups.new.reads c.noted_groups.ensures.reads (omega arith)
 
 pub returns-in_err-bring_on-clause-reads : goal.returns-in_err-bring_on-clause-reads
 returns-in_err-bring_on-clause-reads g c =
-    brought_reads c.args.input.now c.requires.exact c.begin.new.self c.args.kept.now.aggs c.in_ok-begin.ensures.made.aggs
-    c.args.reads.now c.noted_groups.new.reads c.bring_on.new.reads c.noted_groups.ensures.reads c.bring_on.ensures.reads
+    brought_reads c.args.input.now c.requires.exact c.args.shown.now.new.width c.args.reads.now c.noted_groups.new.reads c.bring_on.new.reads c.noted_groups.ensures.reads c.bring_on.ensures.reads
 
 pub returns-in_err-firsts-clause-reads : goal.returns-in_err-firsts-clause-reads
 returns-in_err-firsts-clause-reads g c =
-    brought_reads c.args.input.now c.requires.exact c.begin.new.self c.args.kept.now.aggs c.in_ok-begin.ensures.made.aggs
-    c.args.reads.now c.noted_groups.new.reads c.bring_on.new.reads c.noted_groups.ensures.reads c.bring_on.ensures.reads
+    brought_reads c.args.input.now c.requires.exact c.args.shown.now.new.width c.args.reads.now c.noted_groups.new.reads c.bring_on.new.reads c.noted_groups.ensures.reads c.bring_on.ensures.reads
 
 pub returns-in_err-change-clause-reads : goal.returns-in_err-change-clause-reads
 returns-in_err-change-clause-reads g c =
-    changed_reads c.args.input.now c.requires.exact c.begin.new.self c.args.kept.now.aggs c.in_ok-begin.ensures.made.aggs
-    c.args.reads.now c.noted_groups.new.reads c.bring_on.new.reads c.noted_groups.ensures.reads c.bring_on.ensures.reads
-    c.bring_on.new.self c.in_ok-bring_on.ensures.made c.in_ok-firsts.firsts c.in_ok-firsts.ensures.rising
+    changed_reads c.args.input.now c.requires.exact c.args.shown.now.new.width c.args.reads.now c.noted_groups.new.reads c.bring_on.new.reads c.noted_groups.ensures.reads c.bring_on.ensures.reads
+    c.args.kept.now c.begin.new.self c.bring_on.new.self c.in_ok-begin.ensures.made c.in_ok-bring_on.ensures.made (ap (λ (table : PlainTable). table.width) c.requires.shown) c.in_ok-firsts.firsts c.in_ok-firsts.ensures.rising
     (λ first. c.in_ok-firsts.ensures.firsts first ∙ ap (list_any (starts_numbered c.bring_on.new.self.rows first)) c.numbers.ensures ∙ c.in_ok-bring_on.ensures.firsts first)
     c.group_change.new.reads c.group_change.ensures.reads
 
 pub returns-clause-reads : goal.returns-clause-reads
 returns-clause-reads g c =
-    changed_reads c.args.input.now c.requires.exact c.begin.new.self c.args.kept.now.aggs c.in_ok-begin.ensures.made.aggs
-    c.args.reads.now c.noted_groups.new.reads c.bring_on.new.reads c.noted_groups.ensures.reads c.bring_on.ensures.reads
-    c.bring_on.new.self c.in_ok-bring_on.ensures.made c.in_ok-firsts.firsts c.in_ok-firsts.ensures.rising
+    changed_reads c.args.input.now c.requires.exact c.args.shown.now.new.width c.args.reads.now c.noted_groups.new.reads c.bring_on.new.reads c.noted_groups.ensures.reads c.bring_on.ensures.reads
+    c.args.kept.now c.begin.new.self c.bring_on.new.self c.in_ok-begin.ensures.made c.in_ok-bring_on.ensures.made (ap (λ (table : PlainTable). table.width) c.requires.shown) c.in_ok-firsts.firsts c.in_ok-firsts.ensures.rising
     (λ first. c.in_ok-firsts.ensures.firsts first ∙ ap (list_any (starts_numbered c.bring_on.new.self.rows first)) c.numbers.ensures ∙ c.in_ok-bring_on.ensures.firsts first)
     c.group_change.new.reads c.group_change.ensures.reads

@@ -1,8 +1,8 @@
 use Rattle.std.proofs.Common.{◌≡◌, ap, ◌∙◌, ◌+◌, ◌*◌, ◌≤◌, subst, sym, List, [], ◌∷◌, length}
-use Rattle.tick_model.{specs.declared.table.PlainTable.PlainTable, specs.Changes.{Change, change_of}, specs.Tables.keys}
+use Rattle.tick_model.{specs.Changes.{Change, change_of}}
 use Rattle.tick_table.{specs.Exact.counted, specs.Ticking.Ticking}
 use Rattle.table_operator.{specs.Inputs.{news, olds, tables}, specs.Made.own_tick, proofs.Rooms.{count_is, one_room}}
-use Rattle.agg_by.{specs.Made.{KeepsFirst, agg_made}, proofs.GroupRows.keys-agg}
+use Rattle.agg_by.specs.Made.{KeepsFirst, agg_made}
 use Rattle.agg_by.proofs.in_plan.AggregationTableOperator.advance.Goals as goal
 
 pub one_input-requires : goal.one_input-requires
@@ -28,8 +28,4 @@ returns-in_err-change-clause-reads g c =
     subst (λ room. c.change.new.reads ≤ c.args.reads.now + room) (sym (one_room (agg_made c.args.self) (tables c.args.inputs.now) c.one_input.result.now c.one_input.ensures c.requires.widths)) c.in_err-change.ensures.refused
 
 pub change-requires-clause-shown : goal.change-requires-clause-shown
-change-requires-clause-shown g c =
-    c.rows.ensures.keys
-    ∙ ap (λ (own : PlainTable). keys own.rows) c.requires.shown
-    ∙ ap (λ (inputs : List Ticking). keys (own_tick (agg_made c.args.self) inputs).old.rows) c.one_input.ensures
-    ∙ keys-agg c.args.self.by c.args.self.aggs c.one_input.result.now.old
+change-requires-clause-shown g c = c.requires.shown ∙ ap (λ (inputs : List Ticking). (own_tick (agg_made c.args.self) inputs).old) c.one_input.ensures

@@ -1,4 +1,4 @@
-use Rattle.std.proofs.Common.{◌≡◌, refl, ap, sym, ◌∙◌, subst, Bool, true, false, cond, not, filter, ℕ, List, [], ◌∷◌, ℤ, pos, if◌then◌else◌}
+use Rattle.std.proofs.Common.{◌≡◌, refl, ap, sym, ◌∙◌, subst, Bool, true, false, cond, not, filter, ℕ, List, [], ◌∷◌, ℤ, pos}
 use Rattle.std.specs.Prelude.{int_lt}
 use Rattle.key_lists.{specs.Keys.is_among, proofs.Every.filter_swap}
 use Rattle.row_groups.specs.Members.{Grouped, IsPart, IsRegrouped, Member, Numbered, by_at, group_of, left_members, member_of, placed, with_member}

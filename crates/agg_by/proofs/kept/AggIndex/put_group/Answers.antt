@@ -1,38 +1,37 @@
 use Rattle.std.proofs.Common.{◌≡◌, refl, sym, ◌∙◌, subst, true, List, Option, is_some}
 use Rattle.std.{proofs.lemmas.Result.on_ok_weaker, proofs.lemmas.Option.same_Some}
 use Rattle.row_groups.specs.Members.{Member, group_of, groups_of, name_at}
-use Rattle.tick_table.specs.Versions.{table_in}
 use Rattle.agg_by.{specs.declared.running.Accumulator.Accumulator, specs.Kept.AnswerAll, specs.Steps.key_at, proofs.Answering.{few_rows, led_cells, led_row, put_row, rows_there, there_at}, proofs.FirstKeys.{led_at, led_name, led_own}}
 use Rattle.agg_by.proofs.kept.AggIndex.put_group.Goals as goal
 
 pub number_led-number-requires-clause-there : goal.number_led-number-requires-clause-there
 number_led-number-requires-clause-there g c =
-    let table = table_in c.args.version c.args.input.now in
+    let table = c.args.input.now.new in
     let kept = groups_of c.args.self.now.rows in
     there_at c.args.self.now.by table c.requires.table kept c.requires.keeps.rows c.args.first (led_row c.args.self.now.by table c.requires.table kept c.requires.keeps.rows c.args.first c.requires.here)
 
 pub number_led-number-requires-clause-starts : goal.number_led-number-requires-clause-starts
 number_led-number-requires-clause-starts g c =
-    led_own c.args.self.now.by (table_in c.args.version c.args.input.now) c.requires.table (groups_of c.args.self.now.rows) c.requires.keeps.rows c.args.first c.requires.here
+    led_own c.args.self.now.by c.args.input.now.new c.requires.table (groups_of c.args.self.now.rows) c.requires.keeps.rows c.args.first c.requires.here
 
 pub unwrap-group-requires : goal.unwrap-group-requires
 unwrap-group-requires g c =
     subst (λ (group : Option (List Member)). is_some group ≡ true)
-    (sym (led_at c.args.self.now.by (table_in c.args.version c.args.input.now) c.requires.table (groups_of c.args.self.now.rows) c.requires.keeps.rows c.args.first c.number_led-number.result c.args.self.now.rows.names c.group_at.result c.number_led-number.ensures c.group_at.ensures.group)) refl
+    (sym (led_at c.args.self.now.by c.args.input.now.new c.requires.table (groups_of c.args.self.now.rows) c.requires.keeps.rows c.args.first c.number_led-number.result c.args.self.now.rows.names c.group_at.result c.number_led-number.ensures c.group_at.ensures.group)) refl
 
 pub put_values-requires-clause-few : goal.put_values-requires-clause-few
 put_values-requires-clause-few g c =
-    few_rows c.args.self.now.by (table_in c.args.version c.args.input.now) c.requires.table (groups_of c.args.self.now.rows) c.requires.keeps.rows (key_at c.args.self.now.by (table_in c.args.version c.args.input.now).rows c.args.first) c.unwrap-group.result
-    (same_Some _ _ (sym c.unwrap-group.ensures ∙ led_at c.args.self.now.by (table_in c.args.version c.args.input.now) c.requires.table (groups_of c.args.self.now.rows) c.requires.keeps.rows c.args.first c.number_led-number.result c.args.self.now.rows.names c.group_at.result c.number_led-number.ensures c.group_at.ensures.group))
+    few_rows c.args.self.now.by c.args.input.now.new c.requires.table (groups_of c.args.self.now.rows) c.requires.keeps.rows (key_at c.args.self.now.by c.args.input.now.new.rows c.args.first) c.unwrap-group.result
+    (same_Some _ _ (sym c.unwrap-group.ensures ∙ led_at c.args.self.now.by c.args.input.now.new c.requires.table (groups_of c.args.self.now.rows) c.requires.keeps.rows c.args.first c.number_led-number.result c.args.self.now.rows.names c.group_at.result c.number_led-number.ensures c.group_at.ensures.group))
 
 pub put_values-requires-clause-here : goal.put_values-requires-clause-here
 put_values-requires-clause-here g c =
-    rows_there c.args.self.now.by (table_in c.args.version c.args.input.now) c.requires.table (groups_of c.args.self.now.rows) c.requires.keeps.rows (key_at c.args.self.now.by (table_in c.args.version c.args.input.now).rows c.args.first) c.unwrap-group.result
-    (same_Some _ _ (sym c.unwrap-group.ensures ∙ led_at c.args.self.now.by (table_in c.args.version c.args.input.now) c.requires.table (groups_of c.args.self.now.rows) c.requires.keeps.rows c.args.first c.number_led-number.result c.args.self.now.rows.names c.group_at.result c.number_led-number.ensures c.group_at.ensures.group))
+    rows_there c.args.self.now.by c.args.input.now.new c.requires.table (groups_of c.args.self.now.rows) c.requires.keeps.rows (key_at c.args.self.now.by c.args.input.now.new.rows c.args.first) c.unwrap-group.result
+    (same_Some _ _ (sym c.unwrap-group.ensures ∙ led_at c.args.self.now.by c.args.input.now.new c.requires.table (groups_of c.args.self.now.rows) c.requires.keeps.rows c.args.first c.number_led-number.result c.args.self.now.rows.names c.group_at.result c.number_led-number.ensures c.group_at.ensures.group))
 
 pub returns-clause-cells : goal.returns-clause-cells
 returns-clause-cells g c =
-    let table = table_in c.args.version c.args.input.now in
+    let table = c.args.input.now.new in
     let by = c.args.self.now.by in
     let aggs = c.args.self.now.aggs in
     let names = c.args.self.now.rows.names in

@@ -1,4 +1,4 @@
-use Rattle.std.proofs.Common.{◌≡◌, refl, ap, ap₂, sym, ◌∙◌, subst, rules, arith, true, false, None, List, [], ◌∷◌, ℕ, ℤ, ◌+◌, ◌<◌, ◌≤◌, get_or, length, map, take}
+use Rattle.std.proofs.Common.{◌≡◌, refl, ap, ap₂, sym, ◌∙◌, subst, rules, arith, true, false, None, List, ◌∷◌, ℕ, ℤ, ◌+◌, ◌<◌, ◌≤◌, get_or, length, map, take}
 use Rattle.std.{specs.List.{AllByRecursion, AllZip}, proofs.lemmas.List.{take_all, take_more, with_items_is}, proofs.lemmas.List.Elements.{AllZip-get_or, length_all_zip}, proofs.Math.Nat.mul-le-mul_left}
 use Rattle.key_lists.{specs.Keys.is_among, proofs.Every.{every_weaker, filter_all}, proofs.Parts.every_at}
 use Rattle.row_groups.specs.Members.{IsNumberOf, IsNumberUnder, groups_of}

@@ -1,15 +1,15 @@
-use Rattle.std.proofs.Common.{◌≡◌, ap, ap₂, sym, ◌∙◌, subst, ◌+◌, ◌++◌, ℕ, ℤ, List, length}
+use Rattle.std.proofs.Common.{◌≡◌, ap, sym, ◌∙◌, subst, true, ◌++◌, ℕ, ℤ, List, length}
 use Rattle.std.specs.List.{AllByRecursion}
+use Rattle.key_lists.{specs.Keys.is_among, proofs.Every.every_weaker}
 use Rattle.row_changes.specs.Parts.{cells_under}
-use Rattle.tick_model.{specs.Agg.agg_table, specs.Tables.cells_at}
-use Rattle.agg_by.proofs.Noting.{whole_rows}
+use Rattle.tick_model.specs.Tables.{cells_at, keys}
+use Rattle.tick_table.proofs.WholeRows.{row_whole}
 use Rattle.agg_by.proofs.notes.PriorRows.take.Goals as goal
 
 pub returns-clause-noted : goal.returns-clause-noted
 returns-clause-noted g c =
-    let kept = c.args.kept.now in
-    let table = agg_table kept.by kept.aggs c.args.input.now.old in record {
-      cells = c.in_ok-put_groups.ensures.cells ∙ ap (λ (cells : List ℤ). cells ++ cells_under table c.args.keys) (c.in_ok-reserve.ensures.items ∙ c.clear.ensures.items);
-      whole = subst (λ (width : ℕ). AllByRecursion (λ key. length (cells_at key table.rows) ≡ width) c.args.keys) (sym (ap₂ (λ (a b : ℕ). a + b) c.len.ensures c.len-2.ensures))
-          (whole_rows kept.by kept.aggs c.args.input.now.old c.requires.exact.tick.old_table c.args.keys c.requires.firsts);
+    let table = c.args.table.now.new in record {
+      cells = c.in_ok-all_now.ensures.cells ∙ ap (λ (cells : List ℤ). cells ++ cells_under table c.args.keys) (c.in_ok-reserve.ensures.items ∙ c.clear.ensures.items);
+      whole = subst (λ (width : ℕ). AllByRecursion (λ key. length (cells_at key table.rows) ≡ width) c.args.keys) (sym c.width-width.ensures.now)
+          (every_weaker (λ key. is_among key (keys table.rows) ≡ true) (λ key. length (cells_at key table.rows) ≡ table.width) c.args.keys (λ key. row_whole key table c.requires.table) c.requires.there);
     }

@@ -1,4 +1,4 @@
-use Rattle.std.proofs.Common.{◌≡◌, ap, sym, ◌∙◌, ◌||◌, ◌++◌, ◌∷◌, [], subst, arith, true, ◌+◌, ◌<◌, ◌≤◌, List, ℕ, append-nil, length, map, take}
+use Rattle.std.proofs.Common.{◌≡◌, ap, sym, ◌∙◌, ◌||◌, ◌++◌, ◌∷◌, [], subst, arith, ◌+◌, ◌<◌, ◌≤◌, List, ℕ, append-nil, length, map, take}
 use Rattle.std.{specs.List.list_any, proofs.lemmas.List.take_all, proofs.Math.Nat.mul-le-mul_left}
 use Rattle.tick_model.specs.{Agg.key_cells as cells_by, Updates.Update}
 use Rattle.agg_by.{specs.Steps.{key_at, touched_cells}, specs.Touched.HaveNoted, proofs.Changing.{cells_more, touched_all, touched_kept, went_cells, went_noted}, proofs.Noted.{noted_next, noted_nothing, noted_same}}
